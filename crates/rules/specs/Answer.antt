@@ -1,0 +1,89 @@
+-- What an answer says in the document's numbers, and what an entry point promises of its answer and of the lent memory. Assumes nothing.
+use Prim.Native.Nat.{ℕ}
+use mathlib.Core.Path.{_≡_}
+use mathlib.Core.List.{List}
+use lib.ListN.{length}
+use Rattle.rules.specs.declared.Refusal.{Refusal}
+use Rattle.rules.specs.declared.Refusal.the-variants as Refusal
+use Rattle.rules.specs.declared.Built.{Built}
+use Rattle.rules.specs.declared.Built.the-variants as Built
+use Rattle.rules.specs.declared.Parsed.{Parsed}
+use Rattle.rules.specs.declared.Parsed.the-variants as Parsed
+use Rattle.rules.specs.Outcome.{Outcome, done, refused, filled}
+use Rattle.rules.specs.Reading.{joined, spansOf}
+
+-- the refusal's number (0 where there is none), its place, and the counts of arguments and of units
+pub record Said : Type 0 where
+  pub number : ℕ
+  pub place : ℕ
+  pub arguments : ℕ
+  pub units : ℕ
+
+-- ---- what an outcome says
+
+-- "A refusal carries the number and a place .. Its counts are 0"
+abbrev pub refusal : ℕ → ℕ → Said
+refusal number place = record { number = number; place = place; arguments = 0; units = 0 }
+
+-- the count of units that were written
+abbrev pub wrote : ℕ → Said
+wrote units = record { number = 0; place = 0; arguments = 0; units = units }
+
+-- "The answer gives the number of arguments and of text units."
+abbrev pub gave : ℕ → ℕ → Said
+gave arguments units = record { number = 0; place = 0; arguments = arguments; units = units }
+
+-- the outcome of an entry point that writes units
+abbrev pub unitsSaid : Outcome (List ℕ) → Said
+unitsSaid (done result) = wrote (length result)
+unitsSaid (refused number place) = refusal number place
+
+-- the outcome of reading
+abbrev pub argumentsSaid : Outcome (List (List ℕ)) → Said
+argumentsSaid (done args) = gave (length args) (length (joined args))
+argumentsSaid (refused number place) = refusal number place
+
+-- ---- what an answer says: the one place where the enums' cases get the document's numbers
+
+-- the number and the place of each refusal
+abbrev pub refusalSaid : Refusal → Said
+refusalSaid (Refusal.Record place) = refusal 1 place
+refusalSaid Refusal.Length = refusal 2 0
+refusalSaid Refusal.Spans = refusal 3 0
+refusalSaid Refusal.Room = refusal 4 0
+refusalSaid (Refusal.Nul place) = refusal 5 place
+refusalSaid (Refusal.LineBreak place) = refusal 6 place
+refusalSaid Refusal.Script = refusal 7 0
+
+-- the answer of an entry point that writes units
+abbrev pub builtSaid : Built → Said
+builtSaid (Built.Line units) = wrote units
+builtSaid (Built.Refused r) = refusalSaid r
+
+-- the answer of the reader
+abbrev pub parsedSaid : Parsed → Said
+parsedSaid (Parsed.Arguments count units) = gave count units
+parsedSaid (Parsed.Refused r) = refusalSaid r
+
+-- ---- contracts
+
+-- the answer says what the outcome says, and the output holds afterwards what the outcome leaves in it
+pub record Answered (o : Outcome (List ℕ)) (r : Built) (before after : List ℕ) : Type 0 where
+  pub says : builtSaid r ≡ unitsSaid o
+  pub leaves : after ≡ filled before o
+
+-- the texts and the spans of an outcome of reading
+abbrev pub outcomeTexts : Outcome (List (List ℕ)) → Outcome (List ℕ)
+outcomeTexts (done args) = done (joined args)
+outcomeTexts (refused number place) = refused number place
+
+-- the numbers that an outcome of reading puts into the span table
+abbrev pub outcomeSpans : Outcome (List (List ℕ)) → Outcome (List ℕ)
+outcomeSpans (done args) = done (spansOf args)
+outcomeSpans (refused number place) = refused number place
+
+-- the answer says what the outcome says, and output and span table hold afterwards what the outcome leaves in them
+pub record Read (o : Outcome (List (List ℕ))) (r : Parsed) (text text′ spans spans′ : List ℕ) : Type 0 where
+  pub says : parsedSaid r ≡ argumentsSaid o
+  pub leaves : text′ ≡ filled text (outcomeTexts o)
+  pub tabulates : spans′ ≡ filled spans (outcomeSpans o)

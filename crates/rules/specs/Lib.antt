@@ -1,0 +1,15 @@
+pub mod Choice
+pub mod Unit
+pub mod Outcome
+pub mod Record
+pub mod Quoting
+pub mod Batch
+pub mod Reading
+pub mod Building
+pub mod Block
+pub mod Status
+pub mod Suffix
+pub mod Answer
+pub mod Example
+pub mod Marked
+pub mod Pinned

@@ -1,0 +1,32 @@
+// What the entry points take and answer, as types. What they mean is said in specs/: this crate has no code.
+
+// An argument record: kind (0 regular, 1 raw), start and length in the lent text.
+pub struct Arg {
+    pub kind: u32,
+    pub start: u32,
+    pub len: u32,
+}
+
+// A refusal, by name. Its number is given by `refusalSaid` (specs/Answer.antt). The field is the place: the index of
+// the record at fault plus 1, or 0 where no record is.
+pub enum Refusal {
+    Record(usize),
+    Length,
+    Spans,
+    Room,
+    Nul(usize),
+    LineBreak(usize),
+    Script,
+}
+
+// The answer of an entry point that writes units: how many it wrote, or why it wrote none.
+pub enum Built {
+    Line { units: usize },
+    Refused(Refusal),
+}
+
+// The answer of the reader: how many arguments and text units it wrote, or why it wrote none.
+pub enum Parsed {
+    Arguments { count: usize, units: usize },
+    Refused(Refusal),
+}
