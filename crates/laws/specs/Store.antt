@@ -1,0 +1,60 @@
+-- Stores in a row into lent elements, `sets`. A store past the end changes nothing, so the same stores measure where there is no room. Assumes nothing.
+use Prim.Native.Nat.{ℕ, zero, suc, _+_, _-_, _≤_, _<_}
+use native.Mathlib.Nat.{add-suc, suc-add, add-zero, zero-add}
+use native.Mathlib.Numerals.{add-one}
+use native.Mathlib.Omega.{arith}
+use mathlib.Core.Path.{_≡_, refl, sym, ap, _∙_}
+use mathlib.Core.List.{List, [], _∷_, _++_, append-nil}
+use lib.ListN.{length, getD, take, drop, set, replicate, length-drop, drop-of-length-le, take-append-drop}
+use lib.Seq.{sets, sets-eq, set-out, length-take-le, drop-cons, take-all}
+
+module _ {A : Type 0} where
+  -- what u and then v store is what u ++ v stores
+  pub sets-append : (d : List A) (i : ℕ) (u v : List A) → sets d i (u ++ v) ≡ sets (sets d i u) (i + length u) v
+  sets-append d i [] v = rw add-zero
+  sets-append d i (a ∷ u) v = sets-append (set d i a) (suc i) u v ∙ rw (suc-add, add-suc)
+
+  -- past the end nothing is stored
+  pub sets-out : (d : List A) (i : ℕ) (v : List A) → length d ≤ i → sets d i v ≡ d
+  sets-out d i [] h = refl
+  sets-out d i (a ∷ v) h = rw set-out (sets-out d (suc i) v (omega arith))
+
+  -- where there is room, what is stored from the front on is the front
+  pub sets-front : (d v : List A) → length v ≤ length d → sets d 0 v ≡ v ++ drop (length v) d
+  sets-front d v h = let z : 0 + length v ≡ length v = zero-add _ in rw z at (sets-eq v d 0 (omega arith))
+
+  set-behind : (p r : List A) (j : ℕ) (a : A) → set (p ++ r) (length p + j) a ≡ p ++ set r j a
+  set-behind [] r j a = rw zero-add
+  set-behind (x ∷ p) r j a = rw suc-add (ap (λ (l : List A). x ∷ l) (set-behind p r j a))
+
+  sets-behind : (v p r : List A) (j : ℕ) → sets (p ++ r) (length p + j) v ≡ p ++ sets r j v
+  sets-behind [] p r j = refl
+  sets-behind (a ∷ v) p r j = rw (set-behind, ← add-suc) (sets-behind v p (set r j a) (suc j))
+
+  -- stores into the rest that starts at n are stores into the whole from n on
+  pub sets-rest : (d v : List A) (n : ℕ) → n ≤ length d → take n d ++ sets (drop n d) 0 v ≡ sets d n v
+  sets-rest d v n h =
+      let e : n ≡ length (take n d) + 0 = rw (length-take-le n d h) (omega arith) in
+      let s : sets (take n d ++ drop n d) (length (take n d) + 0) v ≡ take n d ++ sets (drop n d) 0 v = sets-behind v (take n d) (drop n d) 0 in
+      sym s ∙ rw (← e, take-append-drop)
+
+-- the part from a on, as the code's rule has it
+pub part-is : {A : Type 0} (a : ℕ) (x : List A) → take (length x - a) (drop a x) ≡ drop a x
+part-is a x = take-all (length x - a) (drop a x) (simp length-drop (omega arith))
+
+-- a part from a on that has come back as y, as the code's rule has it
+pub back-is : {A : Type 0} (a : ℕ) (x y : List A) → take a x ++ (y ++ drop (length x - a) (drop a x)) ≡ take a x ++ y
+back-is a x y =
+    let e : drop (length x - a) (drop a x) ≡ [] = drop-of-length-le (drop a x) {i = length x - a} (simp length-drop (omega arith)) in
+    rw (e, append-nil)
+
+-- ---- one turn of a loop that stores
+
+-- one element more of a copy
+pub copy-turn : (out : List ℕ) (to i : ℕ) (xs : List ℕ) → i < length xs → sets out to (drop i xs) ≡ sets (set out to (getD xs i 0)) (to + 1) (drop (i + 1) xs)
+copy-turn out to i xs h = rw (add-one i, add-one to, drop-cons xs i 0)
+
+-- one more of a run of one unit
+pub repeat-turn : (out : List ℕ) (to n x : ℕ) → 0 < n → sets out to (replicate n x) ≡ sets (set out to x) (to + 1) (replicate (n - 1) x)
+repeat-turn out to zero x h = absurd (omega arith)
+repeat-turn out to (suc n) x h = let e : suc n - 1 ≡ n = omega arith in rw (e, add-one)
