@@ -87,6 +87,10 @@ any-before p (x ∷ xs) = go (p x) (any-before p xs)
     go true h = sym (lt-ltb 0 (suc (length xs)) (omega arith))
     go false h = rw compare·suc-suc h
 
+-- whether the place of the first that passes is before the end says whether there is one
+pub found-any : (p : ℕ → Bool) (xs : List ℕ) {i : ℕ} → i ≡ before p xs → ltb i (length xs) ≡ any p xs
+found-any p xs e = rw e (sym (any-before p xs))
+
 -- ---- the run at the end
 
 -- one element more behind

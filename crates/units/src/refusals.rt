@@ -1,0 +1,34 @@
+// A refusal's number and place: the one place in code where the names become the document's numbers.
+ghost use mathlib.Core.Path.{_≡_};
+ghost use Rattle.rules.specs.Answer.{refusalSaid};
+use rules::Refusal;
+
+// The refusal's number, 1 to 7.
+pub fn number_of(r: Refusal) -> u32
+    ensures { λ n. ⌜ n ≡ refusalSaid r .number ⌝ }
+{
+    match r {
+        Refusal::Record(_) => 1,
+        Refusal::Length => 2,
+        Refusal::Spans => 3,
+        Refusal::Room => 4,
+        Refusal::Nul(_) => 5,
+        Refusal::LineBreak(_) => 6,
+        Refusal::Script => 7,
+    }
+}
+
+// The refusal's place: the index of the record at fault plus 1, else 0.
+pub fn place_of(r: Refusal) -> usize
+    ensures { λ n. ⌜ n ≡ refusalSaid r .place ⌝ }
+{
+    match r {
+        Refusal::Record(place) => place,
+        Refusal::Length => 0,
+        Refusal::Spans => 0,
+        Refusal::Room => 0,
+        Refusal::Nul(place) => place,
+        Refusal::LineBreak(place) => place,
+        Refusal::Script => 0,
+    }
+}
