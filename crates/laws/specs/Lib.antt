@@ -1,3 +1,13 @@
 pub mod Store
 pub mod Scan
 pub mod Class
+pub mod Choice
+pub mod Kind
+pub mod Limit
+pub mod Nul
+pub mod Length
+pub mod FormRead
+pub mod LineRead
+pub mod Extent
+pub mod Fault
+pub mod Order
