@@ -11,3 +11,4 @@ pub mod LineRead
 pub mod Extent
 pub mod Fault
 pub mod Order
+pub mod Finding

@@ -1,4 +1,8 @@
+pub mod Records
 pub mod Line
+pub mod BatchLine
+pub mod Block
+pub mod Status
 pub mod Reading
 pub mod RoundTrip
 pub mod OneList

@@ -6,29 +6,15 @@ use mathlib.Core.Logic.{_↔_}
 use mathlib.Core.Bool.{Bool, true, false}
 use mathlib.Core.List.{List, [], _∷_}
 use lib.ListN.{length}
-use Rattle.rules.specs.Choice.{either, any}
+use Rattle.rules.specs.Choice.{any}
 use Rattle.rules.specs.Unit.{isNul}
 use Rattle.rules.specs.Outcome.{Outcome, done, refused}
-use Rattle.rules.specs.Record.{Argument, isNoKind, exceeds, judged, argumentFinding, argumentRecords, argumentFault, argumentsOf}
+use Rattle.rules.specs.Record.{Argument, judged, argumentFinding, argumentRecords, argumentFault, argumentsOf}
 use Rattle.rules.specs.Building.{line, lineLimit, nulFinding, commandLine}
-use Rattle.laws.specs.Fault.{Finds, found-once, found-lent, Sound, FirstWrong}
+use Rattle.laws.specs.Fault.{Sound, FirstWrong}
+use Rattle.laws.specs.Finding.{argument-finds, nul-finds}
 use Rattle.laws.specs.Order.{_and_, given, Step, test, most, search-all, only, accepted, refused-test, refused-most, refused-search}
-
--- nothing is wrong with any argument record: none is cut, each has a kind, and none reaches past the text
-abbrev pub SoundRecords : List ℕ → List ℕ → Type 0
-SoundRecords text records = Sound (judged (argumentFinding text)) (argumentRecords records)
-
--- record i is the first that is cut, has no kind or reaches past the text
-abbrev pub FirstWrongRecord : List ℕ → List ℕ → ℕ → Type 0
-FirstWrongRecord text records i = FirstWrong (judged (argumentFinding text)) 1 i (argumentRecords records)
-
--- a record is found wrong by 1 alone
-pub record-finds : (text : List ℕ) → Finds (1 ∷ []) (judged (argumentFinding text))
-record-finds text =
-    found-lent (argumentFinding text) λ number r e. found-once 1 (either (isNoKind (r .kind)) (exceeds text (r .start) (r .len))) number e
-
-nul-finds : Finds (5 ∷ []) nulFinding
-nul-finds number a e = found-once 5 (any isNul (a .content)) number e
+use Rattle.promises.specs.Records.{SoundRecords, FirstWrongRecord}
 
 module _ (force : Bool) (program records text : List ℕ) (room : ℕ) where
   -- what building comes to
@@ -45,7 +31,7 @@ module _ (force : Bool) (program records text : List ℕ) (room : ℕ) where
 
   -- the steps of the order
   abbrev one : Step
-  one = search-all (1 ∷ []) (judged (argumentFinding text)) (record-finds text) (argumentRecords records)
+  one = search-all (1 ∷ []) (judged (argumentFinding text)) (argument-finds text) (argumentRecords records)
 
   abbrev five : Step
   five = test 5 (any isNul program)
