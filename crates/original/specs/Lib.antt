@@ -1,0 +1,10 @@
+pub mod Shims
+pub mod Wtf8
+pub mod AppendArg
+pub mod AppendBatArg
+pub mod MakeCommandLine
+pub mod MakeBatCommandLine
+pub mod ParseLpCmdLine
+pub mod MakeEnvp
+pub mod HasBatExtension
+pub mod ExitStatus
