@@ -1,3 +1,5 @@
+pub mod Laws
+pub mod Wtf8Laws
 pub mod Shims
 pub mod Wtf8
 pub mod AppendArg

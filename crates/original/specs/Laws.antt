@@ -1,0 +1,62 @@
+-- Laws of tests, units and runs of backslashes that the theorems cite. Assumes nothing.
+use Prim.Native.Nat.{ℕ, zero, suc, _+_, _*_}
+use native.Mathlib.Omega.{arith}
+use native.Mathlib.Numerals.{add-one}
+use borrow.Author.Tests.{eqb-true}
+use mathlib.Core.Path.{_≡_, refl, ap}
+use mathlib.Core.Bool.{Bool, true, false}
+use mathlib.Core.List.{List, [], _∷_, _++_, append-assoc, append-nil}
+use lib.ListN.{replicate-append-replicate}
+use Rattle.rules.specs.Choice.{pick, either, both}
+use Rattle.rules.specs.Unit.{isQuote, isBackslash, backslash}
+use Rattle.rules.specs.Quoting.{slashes}
+
+-- ---- tests
+
+-- a test or nothing is that test
+pub either-false : (b : Bool) → either b false ≡ b
+either-false true = refl
+either-false false = refl
+
+-- either way round
+pub either-comm : (a b : Bool) → either a b ≡ either b a
+either-comm true true = refl
+either-comm true false = refl
+either-comm false true = refl
+either-comm false false = refl
+
+-- two tests of which neither holds
+pub neither : (a b : Bool) → either a b ≡ false → (a ≡ false) × (b ≡ false)
+neither true b h = (h, cc)
+neither false b h = (refl, h)
+
+-- ---- units
+
+-- a backslash, a quote mark or any other unit: to match on `kind x` puts the number for x, so that every test on it computes
+pub data Kind : ℕ → Type 0 where
+  slash : Kind 92
+  mark : Kind 34
+  other : {x : ℕ} → isBackslash x ≡ false → isQuote x ≡ false → Kind x
+
+-- the kind of a unit
+pub kind : (x : ℕ) → Kind x
+kind x = go (isBackslash x) (isQuote x) refl refl
+  where
+    go : (b c : Bool) → isBackslash x ≡ b → isQuote x ≡ c → Kind x
+    go true c p q = rw (eqb-true x 92 p) slash
+    go false true p q = rw (eqb-true x 34 q) mark
+    go false false p q = other p q
+
+-- ---- runs of backslashes
+
+-- one backslash more, behind
+pub slashes-push : (k : ℕ) → slashes k ++ backslash ∷ [] ≡ slashes (k + 1)
+slashes-push k = replicate-append-replicate k 1 backslash
+
+-- twice as many
+pub slashes-twice : (k : ℕ) → slashes k ++ slashes k ≡ slashes (2 * k)
+slashes-twice k = let e : k + k ≡ 2 * k = omega arith in rw (replicate-append-replicate k k backslash, e)
+
+-- twice as many and one
+pub slashes-odd : (k : ℕ) → slashes k ++ slashes (k + 1) ≡ slashes (2 * k + 1)
+slashes-odd k = let e : k + (k + 1) ≡ 2 * k + 1 = omega arith in rw (replicate-append-replicate k (k + 1) backslash, e)
