@@ -8,8 +8,8 @@ use mathlib.Core.Bool.{Bool, true, false}
 use mathlib.Core.List.{List, [], _∷_, _++_, append-assoc, append-nil}
 use lib.ListN.{replicate-append-replicate}
 use Rattle.rules.specs.Choice.{pick, either, both}
-use Rattle.rules.specs.Unit.{isQuote, isBackslash, backslash}
-use Rattle.rules.specs.Quoting.{slashes}
+use Rattle.rules.specs.Unit.{isQuote, isBackslash, backslash, quote}
+use Rattle.rules.specs.Quoting.{slashes, enclosed}
 
 -- ---- tests
 
@@ -60,3 +60,21 @@ slashes-twice k = let e : k + k ≡ 2 * k = omega arith in rw (replicate-append-
 -- twice as many and one
 pub slashes-odd : (k : ℕ) → slashes k ++ slashes (k + 1) ≡ slashes (2 * k + 1)
 slashes-odd k = let e : k + (k + 1) ≡ 2 * k + 1 = omega arith in rw (replicate-append-replicate k (k + 1) backslash, e)
+
+-- ---- what closes an argument
+
+-- the backslashes that are written again before the quote mark that closes, where one does
+abbrev pub closed : Bool → List ℕ × ℕ → List ℕ
+closed q (cmd, backslashes) = pick q (cmd ++ slashes backslashes) cmd
+
+-- behind k backslashes at the end
+pub at-end : (q : Bool) (k : ℕ) (front : List ℕ) → closed q (front ++ slashes k, k) ≡ front ++ slashes (pick q (2 * k) k)
+at-end true k front = rw (append-assoc front, slashes-twice k)
+at-end false k front = refl
+
+-- a loop that appends a body, between the statements that open and close the quotes, appends the body or the body in quotes
+pub appended : (loop : List ℕ → List ℕ × ℕ) (body : Bool → List ℕ) → ((q : Bool) (cmd : List ℕ) → closed q (loop cmd) ≡ cmd ++ body q)
+    → (q : Bool) (cmd : List ℕ) → pick q (loop (pick q (cmd ++ quote ∷ []) cmd) .0 ++ slashes (loop (pick q (cmd ++ quote ∷ []) cmd) .1) ++ quote ∷ []) (loop (pick q (cmd ++ quote ∷ []) cmd) .0)
+    ≡ cmd ++ pick q (enclosed (body true)) (body false)
+appended loop body h true cmd = rw (h true (cmd ++ quote ∷ [])) (simp append-assoc)
+appended loop body h false cmd = h false cmd

@@ -1,4 +1,6 @@
 pub mod Laws
+pub mod Domain
+pub mod ForAppendArg
 pub mod Wtf8Laws
 pub mod Shims
 pub mod Wtf8

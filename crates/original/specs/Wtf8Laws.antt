@@ -83,6 +83,7 @@ encoded-behind cp rest = go (ltb cp 0x80) (ltb cp 0x800) (ltb cp 0x10000) refl r
   where
     tail : 128 ≤ cp → Behind cp rest ((0x80 + cp % 64) ∷ rest)
     tail h = one-behind cp (0x80 + cp % 64) rest (rw (no-backslash cp h, no-backslash (0x80 + cp % 64) (omega arith)))
+
     go : (a b c : Bool) → ltb cp 0x80 ≡ a → ltb cp 0x800 ≡ b → ltb cp 0x10000 ≡ c → Behind cp rest (encoded cp ++ rest)
     go true b c ea eb ec = rw ea (one-behind cp cp rest refl)
     go false true c ea eb ec =
@@ -113,6 +114,7 @@ split-last x y ys ih ih′ = go (both (is-high x) (is-low y)) refl
     paired : (zs : List ℕ) → 128 ≤ y → Ends zs → last (encoded (pair x y) ++ bytes (code-points zs)) ==Some 92 ≡ endsInBackslash (y ∷ zs)
     paired [] h e = encoded-behind (pair x y) [] .last-byte ∙ rw (no-backslash y h, no-backslash (pair x y) (omega arith))
     paired (z ∷ zs) h e = rw (encoded-behind (pair x y) (bytes (code-points (z ∷ zs))) .last-byte, empty-bytes (z ∷ zs)) e
+
     go : (b : Bool) → both (is-high x) (is-low y) ≡ b → Ends (x ∷ y ∷ ys)
     go true e =
         let (h, l) = both-true (is-high x) (is-low y) e in
