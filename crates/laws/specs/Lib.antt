@@ -12,3 +12,7 @@ pub mod Extent
 pub mod Fault
 pub mod Order
 pub mod Finding
+pub mod Answer
+pub mod Front
+pub mod Span
+pub mod Told

@@ -77,6 +77,10 @@ placed (s ∷ steps) = placedOf s ++ placed steps
 
 -- ---- what can be given
 
+-- a test does not both hold and fail
+clash : {B : Type 0} (b : Bool) → b ≡ true → b ≡ false → B
+clash b e f = let z : _≡_ {A = ℕ} 0 1 = cc in absurd (omega arith)
+
 module _ (n p : ℕ) (bs ps bs′ ps′ : List ℕ) where
   front-given : given bs ps n p ≡ true → given (bs ++ bs′) (ps ++ ps′) n p ≡ true
   front-given = go (eqb p 0)
@@ -94,6 +98,14 @@ module _ (n p : ℕ) (bs ps bs′ ps′ : List ℕ) where
 
 placed-given : (n i : ℕ) (bs ps : List ℕ) → given bs ps n (i + 1) ≡ any (eqb n) ps
 placed-given n i bs ps = let e : eqb (i + 1) 0 ≡ false = ne-eqb (i + 1) 0 (omega arith) in rw e
+
+-- 0 is no number that is given
+pub unnumbered : (bs ps : List ℕ) (place : ℕ) → any (eqb 0) bs ≡ false → any (eqb 0) ps ≡ false → ¬ (given bs ps 0 place ≡ true)
+unnumbered bs ps place h g = go (eqb place 0)
+  where
+    go : (z : Bool) → ¬ (pick z (any (eqb 0) bs) (any (eqb 0) ps) ≡ true)
+    go true e = clash _ e h
+    go false e = clash _ e g
 
 -- ---- one step
 
@@ -198,9 +210,6 @@ module _ {A : Type 0} (a : A) where
   reached {X} n p before after here quiet still exact =
       (λ e. go (whence (here (onto after (done a))) n p before e), λ h. arrived (here (onto after (done a))) before (turned before (hits .1) h))
     where
-      clash : {B : Type 0} → (b : Bool) → b ≡ true → b ≡ false → B
-      clash b e f = let z : true ≡ false = cc in let z′ : _≡_ {A = ℕ} 0 1 = cc in absurd (omega arith)
-
       hits : (here (onto after (done a)) ≡ refused n p) ↔ X
       hits = exact (onto after (done a)) λ e. clash _ (only after n p e) still
 

@@ -4,7 +4,10 @@ pub mod BatchLine
 pub mod Block
 pub mod Status
 pub mod Reading
+pub mod Answers
+pub mod Unique
 pub mod RoundTrip
 pub mod OneList
 pub mod Bounds
 pub mod Classes
+pub mod Arguments

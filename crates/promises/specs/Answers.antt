@@ -1,0 +1,94 @@
+-- What an answer tells: a refusal changes nothing, a result fills the front and keeps the rest. Assumes nothing.
+use Prim.Native.Nat.{ℕ}
+use mathlib.Core.Path.{_≡_, refl}
+use mathlib.Core.Bool.{Bool}
+use mathlib.Core.List.{List, [], _∷_}
+use lib.ListN.{length}
+use Rattle.rules.specs.declared.Refusal.{Refusal}
+use Rattle.rules.specs.declared.Built.{Built}
+use Rattle.rules.specs.declared.Built.the-variants as Built
+use Rattle.rules.specs.declared.Parsed.{Parsed}
+use Rattle.rules.specs.declared.Parsed.the-variants as Parsed
+use Rattle.rules.specs.Outcome.{Outcome, refused}
+use Rattle.rules.specs.Answer.{refusal, builtSaid, parsedSaid, Answered, Read}
+use Rattle.rules.specs.Building.{commandLine, batchCommandLine}
+use Rattle.rules.specs.Block.{environmentBlock}
+use Rattle.rules.specs.Status.{statusOutcome}
+use Rattle.rules.specs.Reading.{reading}
+use Rattle.laws.specs.Order.{unnumbered}
+use Rattle.laws.specs.Told.{Refusing, told-refused, told-unread, Wrote, Gave, told-written, told-given}
+use Rattle.promises.specs.Line.{line-only, line-built}
+use Rattle.promises.specs.BatchLine.{batch-only, batch-built}
+use Rattle.promises.specs.Block.{block-only, block-built}
+use Rattle.promises.specs.Status.{status-only, status-given}
+use Rattle.promises.specs.Reading.{read-only, read-given}
+
+-- ---- refusals, whichever the entry point
+
+-- where a writer's outcome is a refusal, the answer says its number and place with counts 0, and no lent unit changes
+pub refusal-keeps : {number place : ℕ} {r : Built} {before after : List ℕ} → Answered (refused number place) r before after
+    → (builtSaid r ≡ refusal number place) × (after ≡ before)
+refusal-keeps a = (a .says, a .leaves)
+
+-- where the reader's is, no lent unit and no table place changes
+pub read-refusal-keeps : {number place : ℕ} {r : Parsed} {text text′ spans spans′ : List ℕ} → Read (refused number place) r text text′ spans spans′
+    → (parsedSaid r ≡ refusal number place) × (text′ ≡ text) × (spans′ ≡ spans)
+read-refusal-keeps a = (a .says, a .leaves, a .tabulates)
+
+-- a writer that answers with a refusal was refused by that number at that place, and no lent unit has changed
+pub refused-answer : {o : Outcome (List ℕ)} {q : Refusal} {before after : List ℕ} → Answered o (Built.Refused q) before after
+    → Refusing o q × (after ≡ before)
+refused-answer {o} a = told-refused o a
+
+-- and so the reader
+pub read-refused-answer : {o : Outcome (List (List ℕ))} {q : Refusal} {text text′ spans spans′ : List ℕ}
+    → Read o (Parsed.Refused q) text text′ spans spans′ → Refusing o q × (text′ ≡ text) × (spans′ ≡ spans)
+read-refused-answer {o} a = told-unread o a
+
+-- ---- results: n units are the front of the output, and the rest is kept
+
+module _ {n : ℕ} {before after : List ℕ} where
+  -- make_command_line
+  pub line-answer : (force : Bool) (program records text : List ℕ) → let o = commandLine force program records text (length before) in
+      Answered o (Built.Line n) before after → Wrote o n before after
+  line-answer force program records text a =
+      told-written _
+      (λ place e. unnumbered (5 ∷ 2 ∷ 4 ∷ []) (1 ∷ 5 ∷ []) place refl refl (line-only force program records text (length before) 0 place e))
+      (λ result e. let (_, (_, (_, (_, (fits, made))))) = line-built force program records text (length before) result .0 e in rw (← made) fits)
+      a
+
+  -- make_bat_command_line
+  pub batch-answer : (force : Bool) (script records text : List ℕ) → let o = batchCommandLine force script records text (length before) in
+      Answered o (Built.Line n) before after → Wrote o n before after
+  batch-answer force script records text a =
+      told-written _
+      (λ place e. unnumbered (7 ∷ 5 ∷ 2 ∷ 4 ∷ []) (1 ∷ 6 ∷ 5 ∷ []) place refl refl (batch-only force script records text (length before) 0 place e))
+      (λ result e. let (_, (_, (_, (_, (_, (fits, made)))))) = batch-built force script records text (length before) result .0 e in rw (← made) fits)
+      a
+
+  -- make_envp
+  pub block-answer : (records text : List ℕ) → let o = environmentBlock records text (length before) in
+      Answered o (Built.Line n) before after → Wrote o n before after
+  block-answer records text a =
+      told-written _
+      (λ place e. unnumbered (2 ∷ 4 ∷ []) (1 ∷ 5 ∷ []) place refl refl (block-only records text (length before) 0 place e))
+      (λ result e. let (_, (_, (_, (fits, made)))) = block-built records text (length before) result .0 e in rw (← made) fits)
+      a
+
+  -- status_text
+  pub status-answer : (status : ℕ) → let o = statusOutcome status (length before) in Answered o (Built.Line n) before after → Wrote o n before after
+  status-answer status a =
+      told-written _
+      (λ place e. unnumbered (4 ∷ []) [] place refl refl (status-only status (length before) 0 place e))
+      (λ result e. let (fits, made) = status-given status (length before) result .0 e in rw (← made) fits)
+      a
+
+-- parse_lp_cmd_line: the texts are the front of the output and the spans the front of the table
+pub parse-answer : (executable lent : List ℕ) {count units : ℕ} {text text′ spans spans′ : List ℕ} →
+    let o = reading executable lent (length text) (length spans) in
+    Read o (Parsed.Arguments count units) text text′ spans spans′ → Gave o count units text text′ spans spans′
+parse-answer executable lent {text = text} {spans = spans} a =
+    told-given _
+    (λ place e. unnumbered (2 ∷ 3 ∷ 4 ∷ []) [] place refl refl (read-only executable lent (length text) (length spans) 0 place e))
+    (λ args e. let (_, (places, (fits, made))) = read-given executable lent (length text) (length spans) args .0 e in rw (← made) (fits, places))
+    a

@@ -1,0 +1,30 @@
+-- Each entry point's contract allows one answer and one content of lent memory. Assumes nothing.
+use Prim.Native.Nat.{ℕ}
+use mathlib.Core.Bool.{Bool}
+use mathlib.Core.List.{List}
+use lib.ListN.{length}
+use Rattle.rules.specs.Building.{commandLine, batchCommandLine}
+use Rattle.rules.specs.Block.{environmentBlock}
+use Rattle.rules.specs.Status.{statusOutcome}
+use Rattle.rules.specs.Reading.{reading}
+use Rattle.laws.specs.Answer.{OneAnswer, OneReading, answered-once, read-once}
+
+-- make_command_line
+pub line-once : (force : Bool) (program records text before : List ℕ) → OneAnswer (commandLine force program records text (length before)) before
+line-once force program records text before = answered-once _ before
+
+-- make_bat_command_line
+pub batch-once : (force : Bool) (script records text before : List ℕ) → OneAnswer (batchCommandLine force script records text (length before)) before
+batch-once force script records text before = answered-once _ before
+
+-- make_envp
+pub block-once : (records text before : List ℕ) → OneAnswer (environmentBlock records text (length before)) before
+block-once records text before = answered-once _ before
+
+-- status_text
+pub status-once : (status : ℕ) (before : List ℕ) → OneAnswer (statusOutcome status (length before)) before
+status-once status before = answered-once _ before
+
+-- parse_lp_cmd_line
+pub parse-once : (executable lent text spans : List ℕ) → OneReading (reading executable lent (length text) (length spans)) text spans
+parse-once executable lent text spans = read-once _ text spans
