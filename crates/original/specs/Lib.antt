@@ -1,6 +1,8 @@
 pub mod Laws
 pub mod Domain
 pub mod ForAppendArg
+pub mod ForHasBatExtension
+pub mod ForExitStatus
 pub mod Wtf8Laws
 pub mod Shims
 pub mod Wtf8
