@@ -4,9 +4,9 @@
 use Prim.Native.Nat.{ℕ}
 use mathlib.Core.Bool.{Bool, true, false}
 use mathlib.Core.List.{List, map}
-use Rattle.rules.specs.Choice.{pick, flip, any}
-use Rattle.rules.specs.Unit.{within, isNul}
-use Rattle.rules.specs.Outcome.{Outcome, done, refused, Finding, sound, wrong}
+use Rattle.rules.specs.Choice.{pick, flip}
+use Rattle.rules.specs.Unit.{within}
+use Rattle.rules.specs.Outcome.{Outcome, done, refused, Finding, sound, wrong, Fault, faultless, fault}
 use Rattle.rules.specs.Record.{Argument, isRegular}
 use Rattle.original.specs.Shims.{Error, nul-found, invalid-argument, invalid-script, Result, Ok, Err}
 use Rattle.original.specs.AppendArg.{Arg, Regular, Raw}
@@ -42,10 +42,6 @@ abbrev pub in-domain : {A : Type 0} → Outcome A → Bool
 in-domain (done a) = true
 in-domain (refused number place) = flip (within 1 4 number)
 
--- "with no NUL"
-abbrev pub no-nul : List ℕ → Bool
-no-nul xs = flip (any isNul xs)
-
 -- an argument as the Rust has it: of kind 0 it is regular. Kinds but 0 and 1 the port refuses by 1.
 abbrev pub arg-of : Argument → Arg
 arg-of a = pick (isRegular (a .kind)) (Regular (a .content)) (Raw (a .content))
@@ -53,3 +49,13 @@ arg-of a = pick (isRegular (a .kind)) (Regular (a .content)) (Raw (a .content))
 -- the arguments as the Rust has them
 abbrev pub args-of : List Argument → List Arg
 args-of args = map arg-of args
+
+-- what the port says of a list, where nothing else is wrong
+abbrev pub fault-says : {A : Type 0} → Fault → A → Told A
+fault-says faultless a = gives a
+fault-says (fault number place) a = refuses number
+
+-- a statement behind what is told
+abbrev pub told-map : {A B : Type 0} → (A → B) → Told A → Told B
+told-map f (gives a) = gives (f a)
+told-map f (refuses number) = refuses number

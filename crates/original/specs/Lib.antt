@@ -1,6 +1,8 @@
 pub mod Laws
 pub mod Domain
+pub mod DomainLaws
 pub mod ForAppendArg
+pub mod ForMakeCommandLine
 pub mod ForHasBatExtension
 pub mod ForExitStatus
 pub mod Wtf8Laws
