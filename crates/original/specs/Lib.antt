@@ -3,6 +3,8 @@ pub mod Domain
 pub mod DomainLaws
 pub mod ForAppendArg
 pub mod ForMakeCommandLine
+pub mod ForAppendBatArg
+pub mod ForMakeEnvp
 pub mod ForHasBatExtension
 pub mod ForExitStatus
 pub mod Wtf8Laws
