@@ -5,12 +5,12 @@ use mathlib.Core.Bool.{Bool, true, false}
 use mathlib.Core.List.{List, [], _∷_}
 use lib.Dec.{ltb}
 use lib.ListN.{length}
-use Rattle.rules.specs.Choice.{either}
+use Rattle.rules.specs.Choice.{pick, either}
 use Rattle.rules.specs.declared.Arg.{Arg}
 use Rattle.rules.specs.Outcome.{Outcome, done, refused, refuse, Finding, sound, wrong, wrongIf, Fault, faultless, fault, faultAt, faultFrom, firstFault, unless, limited}
 use Rattle.rules.specs.Record.{Lent, whole, cut, judged, isNoKind, exceeds, argumentFinding, argumentFault, argumentRecords, EntryRecord, entryFinding, entryFault, entryRecords}
-use Rattle.original.specs.Shims.{Result, Ok, Err, _>>=_}
-use Rattle.original.specs.Domain.{Told, gives, refuses, rust-says, port-says, in-domain, fault-says, told-map}
+use Rattle.original.specs.Shims.{Result, Ok, Err, nul-found, _>>=_}
+use Rattle.original.specs.Domain.{Told, gives, refuses, rust-says, port-says, in-domain, finding-says, fault-says, told-map}
 
 -- ---- statements behind
 
@@ -22,6 +22,11 @@ says-then f (Err e) = refl
 pub fault-then : {A B : Type 0} (f : A → B) (g : Fault) (a : A) → told-map f (fault-says g a) ≡ fault-says g (f a)
 fault-then f faultless a = refl
 fault-then f (fault number place) a = refl
+
+-- a NUL is 5
+pub nul-says : {A : Type 0} (n : Bool) (a : A) → rust-says (pick n (Err nul-found) (Ok a)) ≡ finding-says (wrongIf 5 n sound) a
+nul-says true a = refl
+nul-says false a = refl
 
 -- ---- in the domain
 

@@ -7,7 +7,6 @@ use mathlib.Core.Bool.{Bool, true, false}
 use mathlib.Core.List.{List, [], _∷_, _++_, append-assoc, append-nil}
 use Rattle.rules.specs.Choice.{pick, either, any, isEmpty}
 use Rattle.rules.specs.Unit.{isNul, isBlank, quote}
-use Rattle.rules.specs.Outcome.{sound, wrongIf}
 use Rattle.rules.specs.Record.{Argument, isRegular}
 use Rattle.rules.specs.Quoting.{slashes, escaped, needsQuotes, form}
 use Rattle.rules.specs.Building.{written, nulFinding}
@@ -15,6 +14,7 @@ use Rattle.original.specs.Shims.{Result, Ok, Err, nul-found}
 use Rattle.original.specs.Wtf8.{as-encoded-bytes}
 use Rattle.original.specs.AppendArg.{Arg, Regular, Raw, Quote, Always, Auto, quote-and-escape, for-units, append-arg}
 use Rattle.original.specs.Domain.{rust-says, finding-says, arg-of}
+use Rattle.original.specs.DomainLaws.{nul-says}
 use Rattle.original.specs.Laws.{either-comm, Kind, slash, mark, other, kind, slashes-push, slashes-odd, closed, at-end, appended}
 use Rattle.original.specs.Wtf8Laws.{any-bytes, empty-bytes}
 
@@ -81,8 +81,4 @@ append-arg-is force cmd a = go (isRegular (a .kind)) (any isNul (a .content)) re
 -- An argument with no NUL is appended in its form, and one with a NUL is refused by 5, whatever it is and whether quotes are forced or not.
 pub append-arg-same : (force : Bool) (cmd : List ℕ) (a : Argument)
     → rust-says (append-arg cmd (arg-of a) force) ≡ finding-says (nulFinding a) (cmd ++ written (form force) a)
-append-arg-same force cmd a = rw (append-arg-is force cmd a) (go (any isNul (a .content)))
-  where
-    go : (n : Bool) → rust-says (pick n (Err nul-found) (Ok (cmd ++ written (form force) a))) ≡ finding-says (wrongIf 5 n sound) (cmd ++ written (form force) a)
-    go true = refl
-    go false = refl
+append-arg-same force cmd a = rw (append-arg-is force cmd a) (nul-says (any isNul (a .content)) (cmd ++ written (form force) a))

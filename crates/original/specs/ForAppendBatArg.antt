@@ -9,10 +9,14 @@ use lib.Dec.{ltb, eqb}
 use Rattle.rules.specs.Choice.{pick, either, both, flip, any, isEmpty}
 use Rattle.rules.specs.Unit.{units, isNul, isPercent, isForcing, within, quote, carriageReturn}
 use Rattle.rules.specs.Quoting.{slashes}
+use Rattle.rules.specs.Record.{Argument}
+use Rattle.rules.specs.Building.{nulFinding}
 use Rattle.rules.specs.Batch.{batchEscaped, endsInBackslash, needsBatchQuotes, batchForm}
 use Rattle.original.specs.Shims.{_==Some_, contains, last, Result, Ok, Err, nul-found}
 use Rattle.original.specs.Wtf8.{is-high, is-low, pair, code-points, as-encoded-bytes}
 use Rattle.original.specs.AppendBatArg.{is-ascii, is-ascii-alphanumeric, is-control, UNQUOTED, for-code-points, for-bat-units, append-bat-arg}
+use Rattle.original.specs.Domain.{rust-says, finding-says}
+use Rattle.original.specs.DomainLaws.{nul-says}
 use Rattle.original.specs.Laws.{either-false, neither, Kind, slash, mark, other, kind, slashes-push, slashes-twice, closed, at-end, appended}
 use Rattle.original.specs.Wtf8Laws.{both-true, within-least, last-bytes}
 
@@ -165,7 +169,7 @@ writes q (x ∷ xs) = writes-step q xs (kind x) (hack x) (writes q xs)
 
 -- ---- the argument
 
--- An argument with no CR and no NUL is appended in its form, and one with a NUL is refused.
+-- as the Rust's caller sees it
 pub append-bat-arg-is : (force : Bool) (cmd arg : List ℕ) → any isReturn arg ≡ false
     → append-bat-arg cmd arg force ≡ pick (any isNul arg) (Err nul-found) (Ok (cmd ++ batchForm force arg))
 unfolding append-bat-arg batchForm
@@ -176,3 +180,9 @@ append-bat-arg-is force cmd arg c = go (any isNul arg) refl
     go false e =
         rw (e, quoted force arg)
         (ap Ok (appended (λ start. for-bat-units start 0 arg) (λ q. batchEscaped q 0 arg) (λ q start. writes q arg c 0 start start (rw append-nil)) (needsBatchQuotes force arg) cmd))
+
+-- An argument with no CR and no NUL is appended in its batch form, and one with a NUL is refused by 5, whether quotes are forced or not. With a
+-- CR it is never called: see `carriage-return-unreached` in ForMakeBatCommandLine.
+pub append-bat-arg-same : (force : Bool) (cmd : List ℕ) (a : Argument) → any isReturn (a .content) ≡ false
+    → rust-says (append-bat-arg cmd (a .content) force) ≡ finding-says (nulFinding a) (cmd ++ batchForm force (a .content))
+append-bat-arg-same force cmd a c = rw (append-bat-arg-is force cmd (a .content) c) (nul-says (any isNul (a .content)) (cmd ++ batchForm force (a .content)))

@@ -4,6 +4,7 @@ pub mod DomainLaws
 pub mod ForAppendArg
 pub mod ForMakeCommandLine
 pub mod ForAppendBatArg
+pub mod ForMakeBatCommandLine
 pub mod ForMakeEnvp
 pub mod ForHasBatExtension
 pub mod ForExitStatus
