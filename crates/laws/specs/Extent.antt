@@ -57,6 +57,7 @@ ends-fit outside cur {more = more} h = omega (arith, length-append cur (joined m
 ends-fit inside cur {more = more} h = omega (arith, length-append cur (joined more))
 ends-fit closing cur {more = more} h = omega (arith, length-append cur (joined more))
 
+-- from any mode and behind any units, what is read of these fits
 abbrev Bounded : List ℕ → Type 0
 Bounded xs = (m : Mode) (k : ℕ) (cur : List ℕ) → Fits m (length cur + k + length xs) (length xs) (later m k cur xs)
 

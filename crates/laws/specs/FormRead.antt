@@ -46,6 +46,7 @@ one-more (suc k) xs = rw (one-more k xs)
 -- ---- one argument, from its first unit to its last
 module _ (m : Mode) (t : taking m ≡ m) (q : Bool) (rest whole : List ℕ) (R : List (List ℕ))
     (end : (k : ℕ) (cur : List ℕ) → cur ++ slashes k ≡ whole → later m 0 cur (escaped q k [] ++ rest) ≡ R) where
+  -- from any unit of the argument on, its escaped rest is read as the whole of it
   abbrev Body : List ℕ → Type 0
   Body xs = both (outsideQuotes m) (any isBlank xs) ≡ false → (k : ℕ) (cur : List ℕ) → cur ++ (slashes k ++ xs) ≡ whole
       → later m 0 cur (escaped q k xs ++ rest) ≡ R
@@ -84,6 +85,7 @@ close blank k cur whole e = simp (run inside refl, even-run, half-even, e, appen
 
 -- ---- where an argument outside quotes begins
 
+-- an argument outside quotes is read as if it had begun
 abbrev Begins : ℕ → List ℕ → Type 0
 Begins k xs = (rest : List ℕ) → later between 0 [] (escaped false k xs ++ rest) ≡ later outside 0 [] (escaped false k xs ++ rest)
 
@@ -107,6 +109,7 @@ begin xs (other p r) h rest = simp (p, r, h)
 -- ---- the form
 
 module _ (force : Bool) {rest : List ℕ} (b : Behind rest) where
+  -- these units, with the rest behind them, are read as the argument and then the rest
   abbrev Read : List ℕ → List ℕ → Type 0
   Read a xs = later between 0 [] (xs ++ rest) ≡ a ∷ later between 0 [] rest
 

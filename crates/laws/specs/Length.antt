@@ -23,6 +23,7 @@ end-length false k = simp length-replicate (omega arith)
 
 -- ---- an argument of an ordinary line
 
+-- escaped behind any backslashes, the units are not too many
 abbrev Small : Bool → List ℕ → Type 0
 Small q xs = (k : ℕ) → length (escaped q k xs) ≤ 2 * length xs + 2 * k
 
@@ -40,6 +41,7 @@ escaped-length q (x ∷ xs) = step q xs (kind x) (escaped-length q xs)
 
 -- ---- an argument of a batch line
 
+-- and so in a batch line
 abbrev BatchSmall : Bool → List ℕ → Type 0
 BatchSmall q xs = (k : ℕ) → length (batchEscaped q k xs) ≤ 8 * length xs + 2 * k
 

@@ -28,6 +28,7 @@ pub slashes-clean : (k : ℕ) → Clean (slashes k)
 slashes-clean zero = refl
 slashes-clean (suc k) = slashes-clean k
 
+-- escaped behind any backslashes, the units have no NUL where they had none
 abbrev Keeps : Bool → List ℕ → Type 0
 Keeps q xs = Clean xs → (k : ℕ) → Clean (escaped q k xs)
 

@@ -9,12 +9,12 @@ use lib.ListN.{length}
 use Rattle.rules.specs.Choice.{any}
 use Rattle.rules.specs.Unit.{isNul}
 use Rattle.rules.specs.Outcome.{Outcome, done, refused}
-use Rattle.rules.specs.Record.{Argument, judged, argumentFinding, argumentRecords, argumentFault, argumentsOf}
+use Rattle.rules.specs.Record.{Argument, argumentFault, argumentsOf}
 use Rattle.rules.specs.Building.{lineLimit, scriptOf, batchLine, isNoScript, batchFinding, batchCommandLine}
 use Rattle.laws.specs.Fault.{Sound, FirstWrong}
-use Rattle.laws.specs.Finding.{argument-finds, batch-finds}
+use Rattle.laws.specs.Finding.{batch-finds}
 use Rattle.laws.specs.Order.{_and_, given, Step, test, most, search-all, only, accepted, refused-test, refused-most, refused-search}
-use Rattle.promises.specs.Records.{SoundRecords, FirstWrongRecord}
+use Rattle.promises.specs.Records.{SoundRecords, FirstWrongRecord, records-step}
 
 module _ (force : Bool) (script records text : List ℕ) (room : ℕ) where
   -- what building comes to
@@ -33,24 +33,33 @@ module _ (force : Bool) (script records text : List ℕ) (room : ℕ) where
   abbrev SoundScript : Type 0 → Type 0
   SoundScript X = SoundRecords text records and (isNoScript script ≡ false) and (any isNul (scriptOf script) ≡ false) and X
 
-  -- the steps of the order
-  abbrev one : Step
-  one = search-all (1 ∷ []) (judged (argumentFinding text)) (argument-finds text) (argumentRecords records)
+  -- ---- the steps of the order
 
+  -- 1 over all records
+  abbrev one : Step
+  one = records-step text records
+
+  -- 7 for the script
   abbrev seven : Step
   seven = test 7 (isNoScript script)
 
+  -- 5 for the script
   abbrev five : Step
   five = test 5 (any isNul (scriptOf script))
 
+  -- 6 and 5 argument by argument
   abbrev units : Step
   units = search-all (6 ∷ 5 ∷ []) batchFinding batch-finds args
 
+  -- 2 for the whole line
   abbrev two : Step
   two = most 2 lineLimit (length whole)
 
+  -- 4 for the whole line
   abbrev four : Step
   four = most 4 room (length whole)
+
+  -- ---- exactly when
 
   -- only 7, 5, 2 and 4 are given at place 0, only 1, 6 and 5 at a record's place
   pub batch-only : (number place : ℕ) → built ≡ refused number place → given (7 ∷ 5 ∷ 2 ∷ 4 ∷ []) (1 ∷ 6 ∷ 5 ∷ []) number place ≡ true

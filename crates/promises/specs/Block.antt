@@ -27,18 +27,25 @@ module _ (records text : List ℕ) (room : ℕ) where
   abbrev whole : List ℕ
   whole = block entries
 
-  -- the steps of the order
+  -- ---- the steps of the order
+
+  -- 1 over all records
   abbrev one : Step
   one = search-all (1 ∷ []) (judged (entryFinding text)) (entry-finds text) (entryRecords records)
 
+  -- 5 entry by entry
   abbrev nuls : Step
   nuls = search-all (5 ∷ []) entryNulFinding entry-nul-finds entries
 
+  -- 2 for the whole block
   abbrev two : Step
   two = most 2 blockLimit (length whole)
 
+  -- 4 for the whole block
   abbrev four : Step
   four = most 4 room (length whole)
+
+  -- ---- exactly when
 
   -- only 2 and 4 are given at place 0, only 1 and 5 at a record's place
   pub block-only : (number place : ℕ) → built ≡ refused number place → given (2 ∷ 4 ∷ []) (1 ∷ 5 ∷ []) number place ≡ true

@@ -23,15 +23,21 @@ module _ (executable lent : List ℕ) (room numbers : ℕ) where
   abbrev size : ℕ
   size = length (unitsRead executable lent)
 
-  -- the steps of the order
+  -- ---- the steps of the order
+
+  -- 2 for the line or the name
   abbrev two : Step
   two = most 2 readLimit size
 
+  -- 3 for the table
   abbrev three : Step
   three = most 3 (placesOf numbers) (length args)
 
+  -- 4 for the output
   abbrev four : Step
   four = most 4 room (length (joined args))
+
+  -- ---- exactly when
 
   -- only 2, 3 and 4 are given, each at place 0
   pub read-only : (number place : ℕ) → read ≡ refused number place → given (2 ∷ 3 ∷ 4 ∷ []) [] number place ≡ true
