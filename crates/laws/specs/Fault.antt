@@ -30,6 +30,18 @@ found-if numbers m false more number own next e = next e
 pub found-once : (m : ℕ) (b : Bool) (number : ℕ) → wrongIf m b sound ≡ wrong number → any (eqb number) (m ∷ []) ≡ true
 found-once m b number e = found-if (m ∷ []) m b sound number (rw (eq-eqb m m refl)) (λ f. cc) e
 
+-- a test finds its number exactly where it holds, if what follows does not find that number
+pub found-exactly : (m : ℕ) (b : Bool) (more : Finding) → ¬ (more ≡ wrong m) → (wrongIf m b more ≡ wrong m) ↔ (b ≡ true)
+found-exactly m b more else = (go b, λ e. rw e)
+  where
+    go : (b : Bool) → wrongIf m b more ≡ wrong m → b ≡ true
+    go true e = refl
+    go false e = absurd (else e)
+
+-- nothing wrong is not a number
+pub sound-not : (m : ℕ) → ¬ (sound ≡ wrong m)
+sound-not m e = let z : _≡_ {A = ℕ} 0 1 = cc in omega arith
+
 -- where one test is made and nothing is found, it does not hold
 pub passed-once : (m : ℕ) (b : Bool) → wrongIf m b sound ≡ sound → b ≡ false
 passed-once m true e = cc

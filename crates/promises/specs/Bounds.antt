@@ -1,7 +1,7 @@
 -- How long forms, lines and texts can be, and that the bounds are met. Assumes nothing.
 use Prim.Native.Nat.{ℕ, zero, suc, _+_, _*_, _≤_}
 use native.Mathlib.Omega.{arith}
-use mathlib.Core.Path.{_≡_, refl}
+use mathlib.Core.Path.{_≡_, refl, ap}
 use mathlib.Core.Bool.{Bool, true, false}
 use mathlib.Core.List.{List, [], _++_}
 use lib.Dec.{ltb}
@@ -12,7 +12,7 @@ use Rattle.rules.specs.Outcome.{done}
 use Rattle.rules.specs.Quoting.{escaped, needsQuotes, enclosed, form}
 use Rattle.rules.specs.Batch.{batchEscaped, endsInBackslash, needsBatchQuotes, batchForm}
 use Rattle.rules.specs.Building.{batchLine, batchFront}
-use Rattle.rules.specs.Reading.{readLimit, lineOf, arguments, argumentsRead, unitsRead, joined, reading}
+use Rattle.rules.specs.Reading.{readLimit, lineOf, between, later, arguments, argumentsRead, unitsRead, joined, reading}
 use Rattle.rules.specs.Status.{digits, highBit, statusFront, statusText}
 use Rattle.laws.specs.Choice.{choose}
 use Rattle.laws.specs.Length.{escaped-length, batch-escaped-length, digits-length}
@@ -94,10 +94,22 @@ pub count-bound : (executable lent : List ℕ) → isEmpty (lineOf lent) ≡ fal
 unfolding unitsRead
 count-bound executable lent h = rw h at (read-extent executable lent .count)
 
--- the line of a space and a letter has 2 units and 2 arguments
-pub count-met : length (arguments (units " a")) ≡ 2
-unfolding arguments units
-count-met = refl
+-- n times a space and a letter
+unfoldable pub spaced : ℕ → List ℕ
+unfolding units
+spaced zero = []
+spaced (suc n) = units " a" ++ spaced n
+
+spaced-count : (n : ℕ) → length (later between 0 [] (units "a" ++ spaced n)) ≡ suc n
+unfolding later spaced
+spaced-count zero = refl
+spaced-count (suc n) = ap suc (spaced-count n)
+
+-- it is met: the line of n times a space and a letter has 2n units and n + 1 arguments
+pub count-met : (n : ℕ) → (length (spaced n) ≡ 2 * n) × (length (arguments (spaced n)) ≡ n + 1)
+unfolding arguments spaced
+count-met zero = (refl, refl)
+count-met (suc n) = (omega (arith, count-met n .0), omega (arith, spaced-count n))
 
 -- whatever is read has at most 32,767 text units and 16,384 arguments
 pub read-bound : (executable lent : List ℕ) (room numbers : ℕ) (args : List (List ℕ)) → reading executable lent room numbers ≡ done args

@@ -1,3 +1,4 @@
+pub mod Findings
 pub mod Records
 pub mod Line
 pub mod BatchLine
