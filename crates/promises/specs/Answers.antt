@@ -30,7 +30,7 @@ pub refusal-keeps : {number place : ℕ} {r : Built} {before after : List ℕ} �
     → (builtSaid r ≡ refusal number place) × (after ≡ before)
 refusal-keeps a = (a .says, a .leaves)
 
--- where the reader's is, no lent unit and no table place changes
+-- where the reader's outcome is a refusal, the answer says it with counts 0, and no lent unit and no table place changes
 pub read-refusal-keeps : {number place : ℕ} {r : Parsed} {text text′ spans spans′ : List ℕ} → Read (refused number place) r text text′ spans spans′
     → (parsedSaid r ≡ refusal number place) × (text′ ≡ text) × (spans′ ≡ spans)
 read-refusal-keeps a = (a .says, a .leaves, a .tabulates)
@@ -40,15 +40,15 @@ pub refused-answer : {o : Outcome (List ℕ)} {q : Refusal} {before after : List
     → Refusing o q × (after ≡ before)
 refused-answer {o} a = told-refused o a
 
--- and so the reader
+-- a reader that answers so was refused likewise, and no lent unit and no table place has changed
 pub read-refused-answer : {o : Outcome (List (List ℕ))} {q : Refusal} {text text′ spans spans′ : List ℕ}
     → Read o (Parsed.Refused q) text text′ spans spans′ → Refusing o q × (text′ ≡ text) × (spans′ ≡ spans)
 read-refused-answer {o} a = told-unread o a
 
--- ---- results: n units are the front of the output, and the rest is kept
+-- ---- results
 
 module _ {n : ℕ} {before after : List ℕ} where
-  -- make_command_line
+  -- make_command_line: the answer counts the units of the line, which is the front of the output; the rest is kept
   pub line-answer : (force : Bool) (program records text : List ℕ) → let o = commandLine force program records text (length before) in
       Answered o (Built.Line n) before after → Wrote o n before after
   line-answer force program records text a =
@@ -57,7 +57,7 @@ module _ {n : ℕ} {before after : List ℕ} where
       (λ result e. let (_, (_, (_, (_, (fits, made))))) = line-built force program records text (length before) result .0 e in rw (← made) fits)
       a
 
-  -- make_bat_command_line
+  -- make_bat_command_line: the answer counts the units of the batch line, which is the front of the output; the rest is kept
   pub batch-answer : (force : Bool) (script records text : List ℕ) → let o = batchCommandLine force script records text (length before) in
       Answered o (Built.Line n) before after → Wrote o n before after
   batch-answer force script records text a =
@@ -66,7 +66,7 @@ module _ {n : ℕ} {before after : List ℕ} where
       (λ result e. let (_, (_, (_, (_, (_, (fits, made)))))) = batch-built force script records text (length before) result .0 e in rw (← made) fits)
       a
 
-  -- make_envp
+  -- make_envp: the answer counts the units of the block, which is the front of the output; the rest is kept
   pub block-answer : (records text : List ℕ) → let o = environmentBlock records text (length before) in
       Answered o (Built.Line n) before after → Wrote o n before after
   block-answer records text a =
@@ -75,7 +75,7 @@ module _ {n : ℕ} {before after : List ℕ} where
       (λ result e. let (_, (_, (_, (fits, made)))) = block-built records text (length before) result .0 e in rw (← made) fits)
       a
 
-  -- status_text
+  -- status_text: the answer counts the units of the text, which is the front of the output; the rest is kept
   pub status-answer : (status : ℕ) → let o = statusOutcome status (length before) in Answered o (Built.Line n) before after → Wrote o n before after
   status-answer status a =
       told-written _
@@ -83,7 +83,7 @@ module _ {n : ℕ} {before after : List ℕ} where
       (λ result e. let (fits, made) = status-given status (length before) result .0 e in rw (← made) fits)
       a
 
--- parse_lp_cmd_line: the texts are the front of the output and the spans the front of the table
+-- parse_lp_cmd_line: the answer counts arguments and units; texts and spans are the fronts of output and table, and the rests are kept
 pub parse-answer : (executable lent : List ℕ) {count units : ℕ} {text text′ spans spans′ : List ℕ} →
     let o = reading executable lent (length text) (length spans) in
     Read o (Parsed.Arguments count units) text text′ spans spans′ → Gave o count units text text′ spans spans′

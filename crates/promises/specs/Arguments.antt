@@ -38,7 +38,7 @@ module _ (executable lent text spans : List ℕ) {r : Parsed} {text′ spans′ 
   pub part-behind : (i : ℕ) → length args ≤ i → argumentPart text′ spans′ i ≡ argumentPart text′ spans i
   part-behind i h = rw (a .tabulates, given) (part-stale text spans args fits text′ i h)
 
-  -- and where the table has no more places it is empty
+  -- where the table has no more places it is empty
   pub part-empty : (i : ℕ) → placesOf (length spans) ≤ i → argumentPart text′ spans′ i ≡ []
   part-empty i h = part-behind i (omega (arith, fits)) ∙ part-missing text′ spans i h
 
@@ -78,6 +78,6 @@ module _ (force : Bool) (program records text : List ℕ) {n : ℕ} {out out′ 
   pub full-trip : length (joined list) ≤ length texts → length list ≤ placesOf (length spans) → Taken r texts′ spans′ list
   full-trip h g = taken (round-trip line-written executable (length texts) (length spans) h g)
 
-  -- and so with room that is always enough
+  -- demand 3 over the contracts, with room that is always enough
   pub full-trip-always : 32767 ≤ length texts → 32768 ≤ length spans → Taken r texts′ spans′ list
   full-trip-always h g = taken (round-trip-always line-written executable (length texts) (length spans) h g)

@@ -29,7 +29,7 @@ form-bound force xs =
     (simp length-append (omega (arith, escaped-length true xs 0)))
     (omega (arith, escaped-length false xs 0))
 
--- in a batch line it takes at most 8n + 2
+-- in a batch line an argument of n units takes at most 8n + 2
 pub batch-form-bound : (force : Bool) (xs : List ℕ) → length (batchForm force xs) ≤ 8 * length xs + 2
 unfolding batchForm
 batch-form-bound force xs =
@@ -89,7 +89,7 @@ pub text-bound : (executable lent : List ℕ) → isEmpty (lineOf lent) ≡ fals
 unfolding unitsRead
 text-bound executable lent h = rw h at (read-extent executable lent .text)
 
--- and twice the number of its arguments is at most n + 2
+-- twice the number of its arguments is at most n + 2
 pub count-bound : (executable lent : List ℕ) → isEmpty (lineOf lent) ≡ false → 2 * length (argumentsRead executable lent) ≤ length (lineOf lent) + 2
 unfolding unitsRead
 count-bound executable lent h = rw h at (read-extent executable lent .count)

@@ -56,7 +56,7 @@ module _ {force : Bool} {program records text : List ℕ} {room : ℕ} {whole : 
       let (fits, same) = read-back executable in
       read-given executable whole output numbers listed .1 (fits, (rw same g, (rw same h, same)))
 
-  -- and so with room that is always enough
+  -- demand 3, with room that is always enough
   pub round-trip-always : (executable : List ℕ) (output numbers : ℕ) → 32767 ≤ output → 32768 ≤ numbers
       → reading executable whole output numbers ≡ done listed
   round-trip-always executable output numbers h g =

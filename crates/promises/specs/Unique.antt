@@ -9,22 +9,22 @@ use Rattle.rules.specs.Status.{statusOutcome}
 use Rattle.rules.specs.Reading.{reading}
 use Rattle.laws.specs.Answer.{OneAnswer, OneReading, answered-once, read-once}
 
--- make_command_line
+-- make_command_line: one answer, and one content of the output
 pub line-once : (force : Bool) (program records text before : List ℕ) → OneAnswer (commandLine force program records text (length before)) before
 line-once force program records text before = answered-once _ before
 
--- make_bat_command_line
+-- make_bat_command_line: one answer, and one content of the output
 pub batch-once : (force : Bool) (script records text before : List ℕ) → OneAnswer (batchCommandLine force script records text (length before)) before
 batch-once force script records text before = answered-once _ before
 
--- make_envp
+-- make_envp: one answer, and one content of the output
 pub block-once : (records text before : List ℕ) → OneAnswer (environmentBlock records text (length before)) before
 block-once records text before = answered-once _ before
 
--- status_text
+-- status_text: one answer, and one content of the output
 pub status-once : (status : ℕ) (before : List ℕ) → OneAnswer (statusOutcome status (length before)) before
 status-once status before = answered-once _ before
 
--- parse_lp_cmd_line
+-- parse_lp_cmd_line: one answer, and one content of output and span table
 pub parse-once : (executable lent text spans : List ℕ) → OneReading (reading executable lent (length text) (length spans)) text spans
 parse-once executable lent text spans = read-once _ text spans
