@@ -18,6 +18,11 @@ pub either-false : (b : Bool) → either b false ≡ b
 either-false true = refl
 either-false false = refl
 
+-- a test and one that fails
+pub both-false : (b : Bool) → both b false ≡ false
+both-false true = refl
+both-false false = refl
+
 -- either way round
 pub either-comm : (a b : Bool) → either a b ≡ either b a
 either-comm true true = refl

@@ -6,6 +6,7 @@ pub mod ForMakeCommandLine
 pub mod ForAppendBatArg
 pub mod ForMakeBatCommandLine
 pub mod ForMakeEnvp
+pub mod ForParseLpCmdLine
 pub mod ForHasBatExtension
 pub mod ForExitStatus
 pub mod Wtf8Laws
