@@ -1,0 +1,5 @@
+pub mod Run
+pub mod Later
+pub mod Piece
+pub mod Turn
+pub mod First

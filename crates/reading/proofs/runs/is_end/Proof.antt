@@ -1,0 +1,18 @@
+use borrow.Author.Needs.{needs}
+use Rattle.reading.proofs.runs.is_end.Statement.{statement}
+use Rattle.reading.proofs.runs.is_end.Tie as tie
+
+-- src/runs.rt:13:9
+returns : tie.Need-returns
+returns c = search needs
+
+-- src/runs.rt:15:5
+is-blank-requires : tie.Need-is-blank-requires
+is-blank-requires c κs = search needs
+
+-- src/runs.rt:9:1
+returns-2 : tie.Need-returns-2
+returns-2 c = rw (c .before .if1 .left) (c .is-blank .ensures)
+
+pub is-end-spec : {M : Type 1} → statement M
+is-end-spec = tie.close (tie.spec returns is-blank-requires returns-2)
