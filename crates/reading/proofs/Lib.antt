@@ -3,3 +3,5 @@ pub mod Later
 pub mod Piece
 pub mod Turn
 pub mod First
+pub mod Left
+pub mod Outcome

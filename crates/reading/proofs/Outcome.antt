@@ -1,0 +1,153 @@
+-- The outcome of reading: which answer is given, and what the lent memory holds afterwards. Assumes nothing.
+use mathlib.Core.Path.{_≡_, refl, ap, _∙_}
+use mathlib.Core.Bool.{Bool, true, false}
+use mathlib.Core.List.{List, [], _∷_, _++_, append-nil}
+use Prim.Native.Nat.{ℕ, zero, suc, _+_, _*_, _/_, _≤_, _<_}
+use native.Mathlib.Omega.{arith}
+use lib.ListN.{length, take, getD}
+use lib.Seq.{sets, length-take-le}
+use lib.Dec.{eqb, eqb·suc-zero}
+use borrow.Author.Tests.{lt-ltb, le-ltb}
+use Rattle.rules.specs.declared.Parsed.{Parsed}
+use Rattle.rules.specs.declared.Parsed.the-variants as Parsed
+use Rattle.rules.specs.Choice.{pick, flip, isEmpty}
+use Rattle.rules.specs.Unit.{isNul}
+use Rattle.rules.specs.Record.{part}
+use Rattle.rules.specs.Outcome.{Outcome, done, refused}
+use Rattle.rules.specs.Reading.{lineOf, arguments, argumentsRead, unitsRead, readLimit, joined, spansOf, spansFrom, reading, argumentPart}
+use Rattle.rules.specs.Answer.{refusal, parsedSaid, Read}
+use Rattle.laws.specs.Scan.{leading, before, leading-in}
+use Rattle.laws.specs.Store.{sets-out, sets-front}
+use Rattle.reading.specs.Part.{Laid, lineArguments}
+
+-- ---- the line
+
+-- the line is the part before the first NUL
+line-is : (xs : List ℕ) → lineOf xs ≡ take (before isNul xs) xs
+unfolding lineOf leading
+line-is [] = refl
+line-is (x ∷ xs) = go (isNul x) (line-is xs)
+  where
+    go : (b : Bool) → lineOf xs ≡ take (before isNul xs) xs → pick b [] (x ∷ lineOf xs) ≡ take (pick (flip b) (suc (before isNul xs)) 0) (x ∷ xs)
+    go true h = refl
+    go false h = ap (λ (l : List ℕ). x ∷ l) h
+
+module _ (executable xs : List ℕ) (n : ℕ) (e : n ≡ before isNul xs) where
+  -- it has as many units as the scan finds
+  pub line-length : length (take n xs) ≡ n
+  line-length = length-take-le n xs (rw e (leading-in (λ x. flip (isNul x)) xs))
+
+  -- the arguments are those of this part
+  pub arguments-are : lineArguments (take n xs) executable ≡ argumentsRead executable xs
+  unfolding lineArguments argumentsRead
+  arguments-are = rw (line-is xs, e)
+
+  -- so what is laid out of this part are the arguments
+  pub all-laid : {text text′ spans spans′ : List ℕ} {count units : ℕ} → Laid (lineArguments (take n xs) executable) text text′ spans spans′ count units
+      → Laid (argumentsRead executable xs) text text′ spans spans′ count units
+  all-laid r = rw arguments-are at r
+
+  -- the limit counts so many units
+  pub units-are : length (unitsRead executable xs) ≡ pick (eqb n 0) (length executable) n
+  unfolding unitsRead
+  units-are = rw (line-is xs, ← e) (go (take n xs) line-length)
+    where
+      go : (line : List ℕ) → length line ≡ n → length (pick (isEmpty line) executable line) ≡ pick (eqb n 0) (length executable) n
+      go [] l = rw (← l)
+      go (x ∷ line) l = rw (← l, eqb·suc-zero)
+
+-- a line that is not too long has few units, and so has the executable name where the line is empty
+pub short : (n m : ℕ) → pick (eqb n 0) m n ≤ 32767 → (n ≤ 32767) × (n ≡ 0 → m ≤ 32767)
+short zero m h = (omega arith, λ _. h)
+short (suc n) m h = (rw eqb·suc-zero at h, λ z. absurd (omega arith))
+
+-- ---- what is laid out
+
+-- the arguments of an empty line
+pub name-laid : (line executable : List ℕ) {text text′ spans spans′ : List ℕ} → length line ≡ 0 → text′ ≡ sets text 0 executable
+    → spans′ ≡ sets spans (2 * 0) (0 ∷ length executable ∷ []) → Laid (lineArguments line executable) text text′ spans spans′ 1 (length executable)
+unfolding lineArguments
+name-laid [] executable {text} z t s = record { counts = refl; measures = rw append-nil; stores = t ∙ rw append-nil; tabulates = s }
+name-laid (x ∷ line) executable z t s = absurd (omega arith)
+
+-- those of any other
+pub line-laid : (line executable : List ℕ) {text text′ spans spans′ : List ℕ} {count units : ℕ} → (length line ≡ 0 → ⊥)
+    → Laid (arguments line) text text′ spans spans′ count units → Laid (lineArguments line executable) text text′ spans spans′ count units
+unfolding lineArguments
+line-laid [] executable z r = absurd (z refl)
+line-laid (x ∷ line) executable z r = r
+
+-- a table has two numbers for each argument
+pub spans-length : (start : ℕ) (args : List (List ℕ)) → length (spansFrom start args) ≡ 2 * length args
+spans-length start [] = omega arith
+spans-length start (a ∷ args) = let h : length (spansFrom (start + length a) args) ≡ 2 * length args = spans-length (start + length a) args in omega arith
+
+-- where nothing was lent, nothing was stored
+pub text-kept : {args : List (List ℕ)} {text′ spans spans′ : List ℕ} {count units : ℕ} (d : List ℕ) → Laid args [] text′ spans spans′ count units → text′ ++ d ≡ d
+text-kept {args} d r = rw (r .stores, sets-out [] 0 (joined args) (omega arith))
+
+pub spans-kept : {args : List (List ℕ)} {text text′ spans′ : List ℕ} {count units : ℕ} (d : List ℕ) → Laid args text text′ [] spans′ count units → spans′ ++ d ≡ d
+spans-kept {args} d r = rw (r .tabulates, sets-out [] 0 (spansOf args) (omega arith))
+
+-- ---- the outcome
+
+module _ (executable xs : List ℕ) (room numbers : ℕ) where
+  -- 2
+  pub too-long : readLimit < length (unitsRead executable xs) → reading executable xs room numbers ≡ refused 2 0
+  unfolding reading
+  too-long h = rw (lt-ltb _ _ h)
+
+  module _ (fits : length (unitsRead executable xs) ≤ readLimit) where
+    -- 3
+    pub no-places : numbers / 2 < length (argumentsRead executable xs) → reading executable xs room numbers ≡ refused 3 0
+    unfolding reading
+    no-places h = rw (le-ltb _ _ fits, lt-ltb _ _ h)
+
+    module _ (places : length (argumentsRead executable xs) ≤ numbers / 2) where
+      -- 4
+      pub no-room : room < length (joined (argumentsRead executable xs)) → reading executable xs room numbers ≡ refused 4 0
+      unfolding reading
+      no-room h = rw (le-ltb _ _ fits, le-ltb _ _ places, lt-ltb _ _ h)
+
+      -- the arguments
+      pub all-read : length (joined (argumentsRead executable xs)) ≤ room → reading executable xs room numbers ≡ done (argumentsRead executable xs)
+      unfolding reading
+      all-read h = rw (le-ltb _ _ fits, le-ltb _ _ places, le-ltb _ _ h)
+
+-- a refusal that changes nothing
+pub refuses : {o : Outcome (List (List ℕ))} {r : Parsed} {number : ℕ} {text text′ spans spans′ : List ℕ} → o ≡ refused number 0 → parsedSaid r ≡ refusal number 0
+    → text′ ≡ text → spans′ ≡ spans → Read o r text text′ spans spans′
+refuses e a t s = rw e (record { says = a; leaves = t; tabulates = s })
+
+-- the arguments, laid out where there is room, over a text and a table that are as they were
+pub gives : {o : Outcome (List (List ℕ))} {args : List (List ℕ)} {text text₁ text′ spans spans₁ spans′ : List ℕ} {count units : ℕ} → o ≡ done args
+    → Laid args text₁ text′ spans₁ spans′ count units → text₁ ≡ text → spans₁ ≡ spans → length (joined args) ≤ length text → length args ≤ length spans / 2
+    → Read o (Parsed.Arguments count units) text text′ spans spans′
+gives {args = args} {text = text} {spans = spans} e r t s h g =
+    let l : length (spansOf args) ≡ 2 * length args = spans-length 0 args in
+    rw e
+    (record {
+      says = rw (r .counts, r .measures);
+      leaves = r .stores ∙ rw t (sets-front text (joined args) h);
+      tabulates = r .tabulates ∙ rw s (sets-front spans (spansOf args) (omega arith));
+    })
+
+-- ---- one argument
+
+module _ (text spans : List ℕ) (index : ℕ) where
+  -- an index not in the table
+  pub no-place : length spans / 2 ≤ index → [] ≡ argumentPart text spans index
+  unfolding argumentPart
+  no-place h = rw (le-ltb index (length spans / 2) h)
+
+  module _ (place : index < length spans / 2) where
+    -- a span reaching past the text
+    pub past : length text < getD spans (2 * index) 0 + getD spans (2 * index + 1) 0 → [] ≡ argumentPart text spans index
+    unfolding argumentPart
+    past h = rw (lt-ltb index (length spans / 2) place, lt-ltb (length text) (getD spans (2 * index) 0 + getD spans (2 * index + 1) 0) h)
+
+    -- the part of the text itself
+    pub there : getD spans (2 * index) 0 + getD spans (2 * index + 1) 0 ≤ length text
+        → part text (getD spans (2 * index) 0) (getD spans (2 * index + 1) 0) ≡ argumentPart text spans index
+    unfolding argumentPart
+    there h = rw (lt-ltb index (length spans / 2) place, le-ltb (length text) (getD spans (2 * index) 0 + getD spans (2 * index + 1) 0) h)

@@ -1,0 +1,14 @@
+use borrow.Author.Tests.{eq-eqb, ne-eqb}
+use Rattle.reading.proofs.units_read.Statement.{statement}
+use Rattle.reading.proofs.units_read.Tie as tie
+
+-- src/lib.rt:25:9
+returns : tie.Need-returns
+returns c = rw (eq-eqb _ 0 (c .if1 .taken))
+
+-- src/lib.rt:21:1
+returns-2 : tie.Need-returns-2
+returns-2 c = rw (ne-eqb _ 0 (c .if1 .left))
+
+pub units-read-spec : {M : Type 1} → statement M
+units-read-spec = tie.close (tie.spec returns returns-2)
