@@ -1,4 +1,5 @@
 //! The judged functions of the Rust, cut at build time and unchanged, over shims; and the questions that are put to them.
+pub mod prepared;
 pub mod questions;
 pub mod shims;
 
@@ -31,14 +32,31 @@ pub mod process {
     include!(concat!(env!("OUT_DIR"), "/process.rs"));
 
     /// The Rust's writer of an ordinary line.
+    pub(crate) fn line_of(program: &OsStr, args: &[Arg], force_quotes: bool) -> io::Result<Vec<u16>> {
+        make_command_line(program, args, force_quotes)
+    }
+
+    /// The same, of a program's units.
     pub(crate) fn line(program: &[u16], args: &[Arg], force_quotes: bool) -> io::Result<Vec<u16>> {
-        make_command_line(&OsString::from_wide(program), args, force_quotes)
+        line_of(&OsString::from_wide(program), args, force_quotes)
+    }
+
+    /// An environment as the Rust holds it.
+    pub type Map = BTreeMap<EnvKey, OsString>;
+
+    /// The map of entries, in their order.
+    pub fn map(entries: &[(Vec<u16>, Vec<u16>)]) -> Map {
+        entries.iter().enumerate().map(|(i, (k, v))| (EnvKey::made(k, i), OsString::from_wide(v))).collect()
     }
 
     /// The Rust's writer of an environment block.
-    pub fn block(entries: &[(Vec<u16>, Vec<u16>)]) -> io::Result<Vec<u16>> {
-        let map = entries.iter().enumerate().map(|(i, (k, v))| (EnvKey::made(k, i), OsString::from_wide(v))).collect();
+    pub fn block_of(map: Map) -> io::Result<Vec<u16>> {
         make_envp(Some(map)).map(|(_, block)| block)
+    }
+
+    /// The same, of entries.
+    pub fn block(entries: &[(Vec<u16>, Vec<u16>)]) -> io::Result<Vec<u16>> {
+        block_of(map(entries))
     }
 
     // The Rust's test for a batch suffix, `has_suffix`.
