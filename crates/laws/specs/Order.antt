@@ -81,20 +81,14 @@ placed (s ∷ steps) = placedOf s ++ placed steps
 clash : {B : Type 0} (b : Bool) → b ≡ true → b ≡ false → B
 clash b e f = let z : _≡_ {A = ℕ} 0 1 = cc in absurd (omega arith)
 
-module _ (n p : ℕ) (bs ps bs′ ps′ : List ℕ) where
-  front-given : given bs ps n p ≡ true → given (bs ++ bs′) (ps ++ ps′) n p ≡ true
-  front-given = go (eqb p 0)
-    where
-      go : (z : Bool) → pick z (any (eqb n) bs) (any (eqb n) ps) ≡ true → pick z (any (eqb n) (bs ++ bs′)) (any (eqb n) (ps ++ ps′)) ≡ true
-      go true = any-front (eqb n) bs bs′
-      go false = any-front (eqb n) ps ps′
-
-  behind-given : given bs′ ps′ n p ≡ true → given (bs ++ bs′) (ps ++ ps′) n p ≡ true
-  behind-given = go (eqb p 0)
-    where
-      go : (z : Bool) → pick z (any (eqb n) bs′) (any (eqb n) ps′) ≡ true → pick z (any (eqb n) (bs ++ bs′)) (any (eqb n) (ps ++ ps′)) ≡ true
-      go true = any-behind (eqb n) bs bs′
-      go false = any-behind (eqb n) ps ps′
+-- what is given is given where there are more numbers
+wider : (n p : ℕ) (bs ps bs′ ps′ : List ℕ) → (any (eqb n) bs ≡ true → any (eqb n) bs′ ≡ true) → (any (eqb n) ps ≡ true → any (eqb n) ps′ ≡ true)
+    → given bs ps n p ≡ true → given bs′ ps′ n p ≡ true
+wider n p bs ps bs′ ps′ f g = go (eqb p 0)
+  where
+    go : (z : Bool) → pick z (any (eqb n) bs) (any (eqb n) ps) ≡ true → pick z (any (eqb n) bs′) (any (eqb n) ps′) ≡ true
+    go true = f
+    go false = g
 
 placed-given : (n i : ℕ) (bs ps : List ℕ) → given bs ps n (i + 1) ≡ any (eqb n) ps
 placed-given n i bs ps = let e : eqb (i + 1) 0 ≡ false = ne-eqb (i + 1) 0 (omega arith) in rw e
@@ -152,14 +146,24 @@ module _ {A : Type 0} (more : Outcome A) where
     where
       on : Passes s → Whence n p steps more → Whence n p (s ∷ steps) more
       on h (beyond q) = beyond (h, q)
-      on h (within g) = within (behind-given n p (bareOf s) (placedOf s) (bare steps) (placed steps) g)
+      on h (within g) =
+          within
+          (wider n p (bare steps) (placed steps) (bare (s ∷ steps)) (placed (s ∷ steps))
+          (any-behind (eqb n) (bareOf s) (bare steps))
+          (any-behind (eqb n) (placedOf s) (placed steps))
+          g)
 
       go : Turn s (onto steps more) → (onto steps more ≡ refused n p → Whence n p steps more) → Whence n p (s ∷ steps) more
       go (lets h same) ih = on h (ih (cc))
       go (stops m q g same) ih =
           let number : m ≡ n = cc in
           let place : q ≡ p = cc in
-          within (front-given n p (bareOf s) (placedOf s) (bare steps) (placed steps) (rw (number, place) at g))
+          let g′ = rw (number, place) at g in
+          within
+          (wider n p (bareOf s) (placedOf s) (bare (s ∷ steps)) (placed (s ∷ steps))
+          (any-front (eqb n) (bareOf s) (bare steps))
+          (any-front (eqb n) (placedOf s) (placed steps))
+          g′)
 
   -- a result comes from what follows the steps
   result : (a : A) (steps : List Step) → onto steps more ≡ done a → Passed steps (more ≡ done a)

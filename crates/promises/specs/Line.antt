@@ -69,7 +69,8 @@ module _ (force : Bool) (program records text : List ℕ) (room : ℕ) where
   line-program = refused-test whole 5 (one ∷ []) _ (nuls ∷ two ∷ four ∷ []) refl refl
 
   -- 5 at place i + 1: argument i is the first with a NUL
-  pub line-argument : (i : ℕ) → (built ≡ refused 5 (i + 1)) ↔ (SoundRecords text records and (any isNul program ≡ false) and FirstWrong nulFinding 5 i args)
+  pub line-argument : (i : ℕ) → (built ≡ refused 5 (i + 1))
+      ↔ (SoundRecords text records and (any isNul program ≡ false) and FirstWrong nulFinding 5 i args)
   unfolding commandLine argumentFault
   line-argument i = refused-search whole 5 i (one ∷ five ∷ []) _ _ (two ∷ four ∷ []) refl refl
 
