@@ -7,6 +7,7 @@ pub mod ForAppendBatArg
 pub mod ForMakeBatCommandLine
 pub mod ForMakeEnvp
 pub mod ForParseLpCmdLine
+pub mod Outside
 pub mod ForHasBatExtension
 pub mod ForExitStatus
 pub mod Wtf8Laws
