@@ -1,0 +1,5 @@
+pub mod Emitting
+pub mod Forming
+pub mod Deciding
+pub mod Placing
+pub mod Running

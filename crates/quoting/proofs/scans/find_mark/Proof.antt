@@ -1,0 +1,20 @@
+-- `quoting::scans::find_mark` meets its contract. Assumes nothing.
+use borrow.Author.Needs.{needs}
+use Rattle.quoting.proofs.scans.find_mark.Statement.{statement}
+use Rattle.quoting.proofs.scans.find_mark.Tie as tie
+
+find-quote-or-percent-requires : tie.Need-find-quote-or-percent-requires
+find-quote-or-percent-requires c κs = search needs
+
+returns : tie.Need-returns
+returns c = rw (c .before .if1 .taken) (c .find-quote-or-percent .ensures)
+
+find-quote-requires : tie.Need-find-quote-requires
+find-quote-requires c κs = search needs
+
+returns-2 : tie.Need-returns-2
+returns-2 c = rw (c .before .if1 .left) (c .find-quote .ensures)
+
+pub find-mark-spec : {M : Type 1} → statement M
+find-mark-spec =
+    tie.close (tie.spec find-quote-or-percent-requires returns find-quote-requires returns-2)
