@@ -3,7 +3,7 @@ use Prim.Native.Nat.{ℕ, _+_}
 use mathlib.Core.Bool.{Bool, true, false}
 use mathlib.Core.List.{List, [], _∷_}
 use Rattle.rules.specs.Choice.{any}
-use Rattle.original.specs.Shims.{if_then_else_, _==_, _||_, u16, Result, Ok, ensure-no-nuls, _>>=_, push, extend, times, is-empty}
+use Rattle.original.specs.Shims.{if_then_else_, _==_, _||_, u16, Result, Ok, ensure-no-nuls, push, extend, times, is-empty, _>>=_}
 use Rattle.original.specs.Wtf8.{as-encoded-bytes, encode-wide}
 
 -- `enum Arg`

@@ -1,11 +1,10 @@
 -- `append_bat_arg` (args/windows.rs), statement by statement. Assumes nothing.
 use Prim.Native.Nat.{ℕ, _+_}
-use mathlib.Core.Bool.{Bool, true, false}
+use mathlib.Core.Bool.{Bool, true}
 use mathlib.Core.List.{List, [], _∷_}
-use mathlib.Core.Option.{Option, none, some}
 use lib.Dec.{ltb}
 use Rattle.rules.specs.Unit.{units, within}
-use Rattle.original.specs.Shims.{if_then_else_, if-let-Some_of_else_, _==_, _==Some_, _&&_, _||_, !_, u16, Result, Ok, ensure-no-nuls, _>>=_, push, extend, times, is-empty, contains, last}
+use Rattle.original.specs.Shims.{if_then_else_, if-let-Some_of_else_, _==_, _==Some_, _&&_, _||_, !_, u16, Result, Ok, ensure-no-nuls, push, extend, times, is-empty, contains, last, _>>=_}
 use Rattle.original.specs.Wtf8.{as-encoded-bytes, encode-wide, code-points, to-char}
 
 -- `char::is_ascii`

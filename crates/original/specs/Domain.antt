@@ -2,7 +2,7 @@
 -- "The oracle's domain is: inputs that the port doesn't refuse by 1, 2, 3 or 4, with no NUL in program or script save one final NUL of a script;
 -- for blocks, also entries with distinct keys in the order of the Rust's map."
 use Prim.Native.Nat.{ℕ}
-use mathlib.Core.Bool.{Bool, true, false}
+use mathlib.Core.Bool.{Bool, true}
 use mathlib.Core.List.{List, map}
 use Rattle.rules.specs.Choice.{pick, flip}
 use Rattle.rules.specs.Unit.{within}
@@ -37,6 +37,11 @@ abbrev pub finding-says : {A : Type 0} → Finding → A → Told A
 finding-says sound a = gives a
 finding-says (wrong number) a = refuses number
 
+-- what the port says of a list, where nothing else is wrong
+abbrev pub fault-says : {A : Type 0} → Fault → A → Told A
+fault-says faultless a = gives a
+fault-says (fault number place) a = refuses number
+
 -- "inputs that the port doesn't refuse by 1, 2, 3 or 4"
 abbrev pub in-domain : {A : Type 0} → Outcome A → Bool
 in-domain (done a) = true
@@ -49,13 +54,3 @@ arg-of a = pick (isRegular (a .kind)) (Regular (a .content)) (Raw (a .content))
 -- the arguments as the Rust has them
 abbrev pub args-of : List Argument → List Arg
 args-of args = map arg-of args
-
--- what the port says of a list, where nothing else is wrong
-abbrev pub fault-says : {A : Type 0} → Fault → A → Told A
-fault-says faultless a = gives a
-fault-says (fault number place) a = refuses number
-
--- a statement behind what is told
-abbrev pub told-map : {A B : Type 0} → (A → B) → Told A → Told B
-told-map f (gives a) = gives (f a)
-told-map f (refuses number) = refuses number

@@ -1,34 +1,19 @@
 -- What it says that an outcome is in the oracle's domain. Assumes nothing.
 use Prim.Native.Nat.{ℕ, _+_}
-use mathlib.Core.Path.{_≡_, refl}
+use borrow.Author.Tests.{eqb-true}
+use mathlib.Core.Path.{_≡_, refl, sym, _∙_}
 use mathlib.Core.Bool.{Bool, true, false}
 use mathlib.Core.List.{List, [], _∷_}
-use lib.Dec.{ltb}
+use lib.Dec.{ltb, eqb}
 use lib.ListN.{length}
-use Rattle.rules.specs.Choice.{pick, either}
-use Rattle.rules.specs.declared.Arg.{Arg}
-use Rattle.rules.specs.Outcome.{Outcome, done, refused, refuse, Finding, sound, wrong, wrongIf, Fault, faultless, fault, faultAt, faultFrom, firstFault, unless, limited}
-use Rattle.rules.specs.Record.{Lent, whole, cut, judged, isNoKind, exceeds, argumentFinding, argumentFault, argumentRecords, EntryRecord, entryFinding, entryFault, entryRecords}
-use Rattle.original.specs.Shims.{Result, Ok, Err, nul-found, _>>=_}
-use Rattle.original.specs.Domain.{Told, gives, refuses, rust-says, port-says, in-domain, finding-says, fault-says, told-map}
+use Rattle.rules.specs.Outcome.{Outcome, done, refuse, Finding, sound, wrong, Fault, faultless, fault, faultAt, faultFrom, unless, limited}
+use Rattle.rules.specs.Record.{judged, argumentFinding, argumentFault, argumentRecords, entryFinding, entryFault, entryRecords}
+use Rattle.laws.specs.Fault.{Finds}
+use Rattle.laws.specs.Finding.{argument-finds, entry-finds}
+use Rattle.original.specs.Domain.{gives, port-says, in-domain, fault-says}
+use Rattle.original.specs.Laws.{either-false}
 
--- ---- statements behind
-
--- what follows an end without an error
-pub says-then : {A B : Type 0} (f : A → B) (r : Result A) → rust-says (r >>= λ a. Ok (f a)) ≡ told-map f (rust-says r)
-says-then f (Ok a) = refl
-says-then f (Err e) = refl
-
-pub fault-then : {A B : Type 0} (f : A → B) (g : Fault) (a : A) → told-map f (fault-says g a) ≡ fault-says g (f a)
-fault-then f faultless a = refl
-fault-then f (fault number place) a = refl
-
--- a NUL is 5
-pub nul-says : {A : Type 0} (n : Bool) (a : A) → rust-says (pick n (Err nul-found) (Ok a)) ≡ finding-says (wrongIf 5 n sound) a
-nul-says true a = refl
-nul-says false a = refl
-
--- ---- in the domain
+-- ---- limit and room
 
 -- neither the limit nor the room refuses
 pub limited-says : (limit room : ℕ) (result : List ℕ) → in-domain (limited limit room result) ≡ true → port-says (limited limit room result) ≡ gives result
@@ -47,42 +32,29 @@ unless-says (fault number place) limit room result h = refl
 
 -- ---- records
 
--- a finding: sound, or 1
-pub data Ones : Finding → Type 0 where
-  is-sound : Ones sound
-  is-one : Ones (wrong 1)
-
-one-if : (b : Bool) → Ones (wrongIf 1 b sound)
-one-if true = is-one
-one-if false = is-sound
-
--- where records are refused by 1 alone, in the domain there is no fault
-module _ {A B : Type 0} (find : A → Finding) (ones : (a : A) → Ones (find a)) (o : Outcome B) where
-  go-one : (place : ℕ) {f : Finding} → Ones f → (next : Fault) → (in-domain (unless next o) ≡ true → next ≡ faultless)
-      → in-domain (unless (faultAt place f next) o) ≡ true → faultAt place f next ≡ faultless
-  go-one place is-sound next ih h = ih h
-  go-one place is-one next ih h = cc
-
-  pub no-fault : (place : ℕ) (xs : List A) → in-domain (unless (faultFrom find place xs) o) ≡ true → faultFrom find place xs ≡ faultless
+-- where records are found wrong by 1 alone, in the domain there is no fault
+module _ {A B : Type 0} (find : A → Finding) (ones : Finds (1 ∷ []) find) (o : Outcome B) where
+  no-fault : (place : ℕ) (records : List A) → in-domain (unless (faultFrom find place records) o) ≡ true → faultFrom find place records ≡ faultless
   unfolding faultFrom
   no-fault place [] h = refl
-  no-fault place (x ∷ xs) h = go-one place (ones x) (faultFrom find (place + 1) xs) (no-fault (place + 1) xs) h
+  no-fault place (a ∷ more) h = go (find a) refl (faultFrom find (place + 1) more) (no-fault (place + 1) more) h
+    where
+      go : (f : Finding) → find a ≡ f → (next : Fault) → (in-domain (unless next o) ≡ true → next ≡ faultless)
+          → in-domain (unless (faultAt place f next) o) ≡ true → faultAt place f next ≡ faultless
+      go sound e next ih h = ih h
+      go (wrong number) e next ih h =
+          let same : number ≡ 1 = eqb-true number 1 (sym (either-false (eqb number 1)) ∙ ones number a e) in
+          let never : false ≡ true = rw same at h in
+          cc
 
-module _ (text : List ℕ) where
-  argument-ones : (r : Lent Arg) → Ones (judged (argumentFinding text) r)
-  argument-ones (whole r) = one-if (either (isNoKind (r .kind)) (exceeds text (r .start) (r .len)))
-  argument-ones cut = is-one
+-- no argument record is at fault
+pub arguments-sound : (text records : List ℕ) (o : Outcome (List ℕ)) → in-domain (unless (argumentFault text records) o) ≡ true
+    → argumentFault text records ≡ faultless
+unfolding argumentFault
+arguments-sound text records o h = no-fault (judged (argumentFinding text)) (argument-finds text) o 1 (argumentRecords records) h
 
-  entry-ones : (r : Lent EntryRecord) → Ones (judged (entryFinding text) r)
-  entry-ones (whole r) = one-if (either (exceeds text (r .keyStart) (r .keyLen)) (exceeds text (r .valueStart) (r .valueLen)))
-  entry-ones cut = is-one
-
-  -- no argument record is at fault
-  pub arguments-sound : (records : List ℕ) (o : Outcome (List ℕ)) → in-domain (unless (argumentFault text records) o) ≡ true → argumentFault text records ≡ faultless
-  unfolding argumentFault
-  arguments-sound records o h = no-fault (judged (argumentFinding text)) argument-ones o 1 (argumentRecords records) h
-
-  -- no entry record is at fault
-  pub entries-sound : (records : List ℕ) (o : Outcome (List ℕ)) → in-domain (unless (entryFault text records) o) ≡ true → entryFault text records ≡ faultless
-  unfolding entryFault
-  entries-sound records o h = no-fault (judged (entryFinding text)) entry-ones o 1 (entryRecords records) h
+-- no entry record is at fault
+pub entries-sound : (text records : List ℕ) (o : Outcome (List ℕ)) → in-domain (unless (entryFault text records) o) ≡ true
+    → entryFault text records ≡ faultless
+unfolding entryFault
+entries-sound text records o h = no-fault (judged (entryFinding text)) (entry-finds text) o 1 (entryRecords records) h

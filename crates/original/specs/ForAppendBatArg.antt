@@ -12,13 +12,15 @@ use Rattle.rules.specs.Quoting.{slashes}
 use Rattle.rules.specs.Record.{Argument}
 use Rattle.rules.specs.Building.{nulFinding}
 use Rattle.rules.specs.Batch.{batchEscaped, endsInBackslash, needsBatchQuotes, batchForm}
-use Rattle.original.specs.Shims.{_==Some_, contains, last, Result, Ok, Err, nul-found}
+use Rattle.laws.specs.Kind.{Kind, slash, marked, other, kind}
+use Rattle.laws.specs.Choice.{apart}
+use Rattle.original.specs.Shims.{_==Some_, contains, last}
 use Rattle.original.specs.Wtf8.{is-high, is-low, pair, code-points, as-encoded-bytes}
 use Rattle.original.specs.AppendBatArg.{is-ascii, is-ascii-alphanumeric, is-control, UNQUOTED, for-code-points, for-bat-units, append-bat-arg}
 use Rattle.original.specs.Domain.{rust-says, finding-says}
-use Rattle.original.specs.DomainLaws.{nul-says}
-use Rattle.original.specs.Laws.{either-false, neither, Kind, slash, mark, other, kind, slashes-push, slashes-twice, closed, at-end, appended}
-use Rattle.original.specs.Wtf8Laws.{both-true, within-least, last-bytes}
+use Rattle.original.specs.Loops.{ensured-says}
+use Rattle.original.specs.Laws.{both-true, within-least, either-false, slashes-push, slashes-twice, closed, at-end, appended}
+use Rattle.original.specs.Wtf8Laws.{last-bytes}
 
 -- ---- the decision on quotes
 
@@ -153,13 +155,13 @@ Writes q xs = any isReturn xs ≡ false → (k : ℕ) (front cmd : List ℕ) →
 writes-step : (q : Bool) {x : ℕ} (xs : List ℕ) → Kind x → Hack x → Writes q xs → Writes q (x ∷ xs)
 unfolding for-bat-units batchEscaped
 writes-step q xs slash h ih c k front cmd e = ih c (k + 1) front _ (rw (e, append-assoc front, slashes-push k))
-writes-step q xs mark h ih c k front cmd e =
+writes-step q xs marked h ih c k front cmd e =
     ih c 0 (front ++ (slashes (2 * k) ++ quote ∷ quote ∷ [])) _ (rw e (simp (append-assoc, ← slashes-twice k, append-nil)))
     ∙ simp append-assoc
 writes-step q xs (other p r) hidden ih c k front cmd e =
     ih c 0 (front ++ (slashes k ++ units "%%cd:~,%")) _ (rw e (simp (append-assoc, append-nil))) ∙ simp append-assoc
 writes-step q xs (other {x} p r) (shown s) ih c k front cmd e =
-    let (n, c′) = neither (isReturn x) (any isReturn xs) c in
+    let (n, c′) = apart true (isReturn x) (any isReturn xs) c in
     simp (p, r, s, n) (ih c′ 0 (front ++ (slashes k ++ x ∷ [])) (cmd ++ x ∷ []) (rw e (simp (append-assoc, append-nil))) ∙ simp append-assoc)
 
 writes : (q : Bool) (xs : List ℕ) → Writes q xs
@@ -167,22 +169,17 @@ unfolding for-bat-units batchEscaped
 writes q [] = λ c k front cmd e. rw e (at-end q k front)
 writes q (x ∷ xs) = writes-step q xs (kind x) (hack x) (writes q xs)
 
--- ---- the argument
+loop : (xs : List ℕ) → any isReturn xs ≡ false → (q : Bool) (cmd : List ℕ) → closed q (for-bat-units cmd 0 xs) ≡ cmd ++ batchEscaped q 0 xs
+loop xs c q cmd = writes q xs c 0 cmd cmd (rw append-nil)
 
--- as the Rust's caller sees it
-pub append-bat-arg-is : (force : Bool) (cmd arg : List ℕ) → any isReturn arg ≡ false
-    → append-bat-arg cmd arg force ≡ pick (any isNul arg) (Err nul-found) (Ok (cmd ++ batchForm force arg))
-unfolding append-bat-arg batchForm
-append-bat-arg-is force cmd arg c = go (any isNul arg) refl
-  where
-    go : (n : Bool) → any isNul arg ≡ n → append-bat-arg cmd arg force ≡ pick n (Err nul-found) (Ok (cmd ++ batchForm force arg))
-    go true e = rw e
-    go false e =
-        rw (e, quoted force arg)
-        (ap Ok (appended (λ start. for-bat-units start 0 arg) (λ q. batchEscaped q 0 arg) (λ q start. writes q arg c 0 start start (rw append-nil)) (needsBatchQuotes force arg) cmd))
+-- ---- the argument
 
 -- An argument with no CR and no NUL is appended in its batch form, and one with a NUL is refused by 5, whether quotes are forced or not. With a
 -- CR it is never called: see `carriage-return-unreached` in ForMakeBatCommandLine.
 pub append-bat-arg-same : (force : Bool) (cmd : List ℕ) (a : Argument) → any isReturn (a .content) ≡ false
     → rust-says (append-bat-arg cmd (a .content) force) ≡ finding-says (nulFinding a) (cmd ++ batchForm force (a .content))
-append-bat-arg-same force cmd a c = rw (append-bat-arg-is force cmd (a .content) c) (nul-says (any isNul (a .content)) (cmd ++ batchForm force (a .content)))
+unfolding append-bat-arg batchForm
+append-bat-arg-same force cmd a c =
+    let arg = a .content in
+    rw (quoted force arg)
+    (ensured-says (any isNul arg) arg (appended (λ start. for-bat-units start 0 arg) (λ q. batchEscaped q 0 arg) (loop arg c) (needsBatchQuotes force arg) cmd))

@@ -7,9 +7,9 @@ use mathlib.Core.Path.{_≡_, refl, ap, _∙_}
 use mathlib.Core.Bool.{Bool, true, false}
 use mathlib.Core.List.{List, [], _∷_, _++_, append-assoc, append-nil}
 use mathlib.Core.Option.{some}
-use lib.Dec.{ltb, eqb}
-use lib.IntN.{ℤ, pos, _-ℤ_, +ℤ-idr}
-use Rattle.rules.specs.Choice.{pick, flip}
+use lib.Dec.{ltb}
+use lib.IntN.{pos, _-ℤ_, +ℤ-idr}
+use Rattle.rules.specs.Choice.{pick}
 use Rattle.rules.specs.Unit.{units}
 use Rattle.rules.specs.Status.{glyph, digits, highBit, statusFront, statusText, signedCode}
 use Rattle.original.specs.ExitStatus.{as-i32, exit-code, and-high-bit, digit, formatted, exit-display}
@@ -99,6 +99,8 @@ exit-display-same status h = go (ltb status highBit) refl
   where
     go : (b : Bool) → ltb status highBit ≡ b → exit-display status ≡ statusFront ++ pick b (digits 10 9 status) (units "0x" ++ digits 16 7 status)
     go true e =
-        rw (low-bit status (ltb-true status highBit e), same-digits 10 ten 9 31 status [] (omega arith) (omega arith), append-nil)
+        rw (low-bit status (ltb-true status highBit e))
+        (ap (λ text. statusFront ++ text) (same-digits 10 ten 9 31 status [] (omega arith) (omega arith) ∙ append-nil _))
     go false e =
-        rw (high-bit status (ltb-false status highBit e) h, same-digits 16 sixteen 7 31 status [] (omega arith) (omega arith), append-nil)
+        rw (high-bit status (ltb-false status highBit e) h)
+        (ap (λ text. statusFront ++ (units "0x" ++ text)) (same-digits 16 sixteen 7 31 status [] (omega arith) (omega arith) ∙ append-nil _))

@@ -1,5 +1,5 @@
 -- `has_bat_extension` is the test on the batch suffix. Assumes nothing.
-use Prim.Native.Nat.{ℕ, suc, _-_, _≤_}
+use Prim.Native.Nat.{ℕ, _-_}
 use native.Mathlib.Omega.{arith}
 use borrow.Author.Tests.{le-leb}
 use mathlib.Core.Path.{_≡_, refl}

@@ -1,30 +1,31 @@
 -- `make_bat_command_line` writes the batch line of the rules, and never calls `append_bat_arg` with a CR. Assumes nothing.
-use Prim.Native.Nat.{ℕ, _+_, _≤_}
+use Prim.Native.Nat.{ℕ, _≤_}
 use native.Mathlib.Omega.{arith}
 use borrow.Author.Tests.{eqb-true, eqb-false, eq-eqb, ne-eqb}
 use mathlib.Core.Path.{_≡_, refl, sym, ap, _∙_}
 use mathlib.Core.Bool.{Bool, true, false}
-use mathlib.Core.List.{List, [], _∷_, _++_, append-assoc, append-nil}
+use mathlib.Core.List.{List, [], _∷_, _++_, append-assoc}
 use mathlib.Core.Option.{Option, none, some}
 use lib.Dec.{eqb}
 use Rattle.rules.specs.Choice.{pick, either, both, any}
 use Rattle.rules.specs.Unit.{isNul, isQuote, isLineBreak, quote, space}
-use Rattle.rules.specs.Outcome.{sound, wrongIf, faultAt, faultFrom, firstFault, refuse, unless, limited}
-use Rattle.rules.specs.Record.{Argument, isRegular, raw, argumentFault, argumentsOf}
-use Rattle.rules.specs.Quoting.{enclosed}
+use Rattle.rules.specs.Outcome.{wrongIf, firstFault, refuse, unless, limited}
+use Rattle.rules.specs.Record.{Argument, isRegular, raw, argumentsOf}
 use Rattle.rules.specs.Batch.{endsInBackslash, batchForm}
-use Rattle.rules.specs.Building.{written, tail, lineLimit, scriptOf, batchFront, batchLine, isNoScript, batchFinding, batchCommandLine}
-use Rattle.original.specs.Shims.{_==Some_, contains, last, before, strip-suffix, unwrap-or, Result, Ok, Err, nul-found, invalid-argument, _>>=_}
+use Rattle.rules.specs.Building.{written, tail, lineLimit, scriptOf, batchFront, batchLine, isNoScript, nulFinding, batchFinding, batchCommandLine}
+use Rattle.laws.specs.Choice.{apart}
+use Rattle.original.specs.Shims.{_==Some_, contains, last, before, strip-suffix, unwrap-or, Result, Ok, Err, _>>=_}
 use Rattle.original.specs.Wtf8.{as-encoded-bytes}
-use Rattle.original.specs.AppendArg.{Arg, Regular, Raw, append-arg}
+use Rattle.original.specs.AppendArg.{Arg, Regular, Raw}
 use Rattle.original.specs.AppendBatArg.{append-bat-arg}
 use Rattle.original.specs.MakeBatCommandLine.{DISALLOWED, Append, match-arg, for-bat-args, make-bat-command-line-by, make-bat-command-line}
-use Rattle.original.specs.Domain.{refuses, rust-says, port-says, in-domain, fault-says, arg-of, args-of}
-use Rattle.original.specs.DomainLaws.{says-then, fault-then, unless-says, arguments-sound}
-use Rattle.original.specs.Laws.{either-false, neither}
+use Rattle.original.specs.Domain.{refuses, rust-says, port-says, in-domain, finding-says, fault-says, arg-of, args-of}
+use Rattle.original.specs.DomainLaws.{unless-says, arguments-sound}
+use Rattle.original.specs.Loops.{says-then, Loop, loop-says}
+use Rattle.original.specs.Laws.{either-false}
 use Rattle.original.specs.Wtf8Laws.{any-bytes}
-use Rattle.original.specs.ForAppendArg.{append-arg-is}
-use Rattle.original.specs.ForAppendBatArg.{isReturn, append-bat-arg-is}
+use Rattle.original.specs.ForAppendArg.{append-arg-same}
+use Rattle.original.specs.ForAppendBatArg.{isReturn, append-bat-arg-same}
 
 -- ---- tests
 
@@ -58,8 +59,8 @@ disallowed-any xs = any-bytes disallowed no-break xs ∙ any-same disallowed isL
 no-return : (xs : List ℕ) → any isLineBreak xs ≡ false → any isReturn xs ≡ false
 no-return [] h = refl
 no-return (x ∷ xs) h =
-    let (e, h′) = neither (isLineBreak x) (any isLineBreak xs) h in
-    let (e′, _) = neither (isReturn x) (eqb x 10) e in
+    let (e, h′) = apart true (isLineBreak x) (any isLineBreak xs) h in
+    let (e′, _) = apart true (isReturn x) (eqb x 10) e in
     rw (e′, no-return xs h′)
 
 -- ---- an argument
@@ -93,41 +94,34 @@ module _ (call : Append) (calls : (cmd arg : List ℕ) (force : Bool) → any is
   unfolding make-bat-command-line
   carriage-return-unreached script args force = simp (for-unreached)
 
--- an argument as it is appended, with CR or LF found first, then a NUL
-match-arg-is : (force : Bool) (cmd : List ℕ) (a : Argument)
-    → match-arg append-bat-arg cmd (arg-of a) force
-    ≡ pick (both (isRegular (a .kind)) (any isLineBreak (a .content))) (Err invalid-argument)
-    (pick (any isNul (a .content)) (Err nul-found) (Ok (cmd ++ written (batchForm force) a)))
+-- an argument is appended, or refused by 6 or, after that, by 5
+match-arg-says : (force : Bool) (cmd : List ℕ) (a : Argument)
+    → rust-says (match-arg append-bat-arg cmd (arg-of a) force) ≡ finding-says (batchFinding a) (cmd ++ written (batchForm force) a)
 unfolding match-arg
-match-arg-is force cmd a = go (isRegular (a .kind)) refl (any isLineBreak (a .content)) refl
+match-arg-says force cmd a = go (isRegular (a .kind)) refl (any isLineBreak (a .content)) refl
   where
     go : (r : Bool) → isRegular (a .kind) ≡ r → (b : Bool) → any isLineBreak (a .content) ≡ b
-        → match-arg append-bat-arg cmd (arg-of a) force
-        ≡ pick (both r b) (Err invalid-argument) (pick (any isNul (a .content)) (Err nul-found) (Ok (cmd ++ pick r (batchForm force (a .content)) (a .content))))
+        → rust-says (match-arg append-bat-arg cmd (arg-of a) force)
+        ≡ finding-says (wrongIf 6 (both r b) (nulFinding a)) (cmd ++ pick r (batchForm force (a .content)) (a .content))
     go true e true b = rw (e, disallowed-any (a .content), b)
-    go true e false b = rw (e, disallowed-any (a .content), b) (append-bat-arg-is force cmd (a .content) (no-return (a .content) b))
-    go false e t b = rw e (append-arg-is force cmd (record { kind = raw; content = a .content }))
+    go true e false b = rw (e, disallowed-any (a .content), b) (append-bat-arg-same force cmd a (no-return (a .content) b))
+    go false e t b = rw e (append-arg-same force cmd (record { kind = raw; content = a .content }))
 
 -- ---- the line
 
 -- the loop appends a space and a form for each argument, up to the first at fault
-for-bat-args-says : (force : Bool) (place : ℕ) (cmd : List ℕ) (args : List Argument)
-    → rust-says (for-bat-args append-bat-arg cmd (args-of args) force) ≡ fault-says (faultFrom batchFinding place args) (cmd ++ tail (batchForm force) args)
-unfolding for-bat-args faultFrom
-for-bat-args-says force place cmd [] = rw append-nil
-for-bat-args-says force place cmd (a ∷ args) =
-    rw (match-arg-is force (cmd ++ space ∷ []) a)
-    (go (both (isRegular (a .kind)) (any isLineBreak (a .content))) (any isNul (a .content))
-    (for-bat-args-says force (place + 1) (cmd ++ space ∷ [] ++ written (batchForm force) a) args ∙ simp append-assoc))
-  where
-    go : (b n : Bool)
-        → rust-says (for-bat-args append-bat-arg (cmd ++ space ∷ [] ++ written (batchForm force) a) (args-of args) force)
-        ≡ fault-says (faultFrom batchFinding (place + 1) args) (cmd ++ (space ∷ written (batchForm force) a ++ tail (batchForm force) args))
-        → rust-says (pick b (Err invalid-argument) (pick n (Err nul-found) (Ok (cmd ++ space ∷ [] ++ written (batchForm force) a))) >>= λ cmd. for-bat-args append-bat-arg cmd (args-of args) force)
-        ≡ fault-says (faultAt place (wrongIf 6 b (wrongIf 5 n sound)) (faultFrom batchFinding (place + 1) args)) (cmd ++ (space ∷ written (batchForm force) a ++ tail (batchForm force) args))
-    go true n ih = refl
-    go false true ih = refl
-    go false false ih = ih
+loop : (force : Bool)
+    → Loop (λ cmd args. for-bat-args append-bat-arg cmd (args-of args) force) batchFinding (λ a. space ∷ written (batchForm force) a) (tail (batchForm force))
+unfolding for-bat-args
+loop force =
+    record {
+      call = λ cmd a. match-arg append-bat-arg (cmd ++ space ∷ []) (arg-of a) force;
+      ends = λ cmd. refl;
+      turns = λ cmd a more. refl;
+      says = λ cmd a. match-arg-says force (cmd ++ space ∷ []) a ∙ simp append-assoc;
+      none = refl;
+      next = λ a more. refl;
+    }
 
 -- `script.last() == Some(..)`
 last-same : (script : List ℕ) → last script ==Some 92 ≡ endsInBackslash script
@@ -162,18 +156,19 @@ pub make-bat-command-line-says : (force : Bool) (script : List ℕ) (args : List
 unfolding make-bat-command-line batchLine
 make-bat-command-line-says force script args = go (isNoScript script) refl
   where
-    start : List ℕ
-    start = batchFront ++ quote ∷ [] ++ scriptOf script ++ quote ∷ []
+    start : List ℕ → List ℕ
+    start script = batchFront ++ quote ∷ [] ++ script ++ quote ∷ []
 
     go : (b : Bool) → isNoScript script ≡ b
         → rust-says (make-bat-command-line script (args-of args) force)
         ≡ pick b (refuses 7) (fault-says (firstFault batchFinding args) (batchLine force (scriptOf script) args))
     go true e = rw (no-script-same script, e)
     go false e =
-        rw (no-script-same script, e, script-same script)
-        (says-then (λ cmd. cmd ++ quote ∷ []) (for-bat-args append-bat-arg start (args-of args) force)
-        ∙ rw (for-bat-args-says force 1 start args)
-        (fault-then (λ cmd. cmd ++ quote ∷ []) (firstFault batchFinding args) (start ++ tail (batchForm force) args) ∙ simp append-assoc))
+        rw (no-script-same script, e)
+        (says-then (λ cmd. cmd ++ quote ∷ []) (for-bat-args append-bat-arg (start (unwrap-or (strip-suffix script 0) script)) (args-of args) force)
+        (firstFault batchFinding args) (start (scriptOf script) ++ tail (batchForm force) args)
+        (rw (script-same script) (loop-says (loop force) 1 (start (scriptOf script)) args))
+        ∙ simp append-assoc)
 
 -- On the oracle's domain the Rust and the port say the same.
 pub make-bat-command-line-same : (force : Bool) (script records text : List ℕ) (room : ℕ)

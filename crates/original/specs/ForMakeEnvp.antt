@@ -1,20 +1,21 @@
 -- `make_envp` writes the block of the rules. Assumes nothing.
 -- The order of keys is a parameter: whatever it is, entries whose keys stand in it, each above all before it, are what the map yields.
-use Prim.Native.Nat.{ℕ, _+_}
+use Prim.Native.Nat.{ℕ}
 use mathlib.Core.Path.{_≡_, refl, sym, ap, _∙_}
 use mathlib.Core.Bool.{Bool, true, false}
 use mathlib.Core.List.{List, [], _∷_, _++_, append-assoc, append-nil}
 use mathlib.Core.Option.{some}
 use Rattle.rules.specs.Choice.{pick, both, any}
 use Rattle.rules.specs.Unit.{isNul, nul, equals}
-use Rattle.rules.specs.Outcome.{sound, wrongIf, faultAt, faultFrom, firstFault, unless, limited}
-use Rattle.rules.specs.Record.{Entry, entryFault, entriesOf}
+use Rattle.rules.specs.Outcome.{sound, wrongIf, faultFrom, firstFault, unless, limited}
+use Rattle.rules.specs.Record.{Entry, entriesOf}
 use Rattle.rules.specs.Block.{blockLimit, entryUnits, block, entryNulFinding, environmentBlock}
-use Rattle.original.specs.Shims.{Ok, Err, nul-found, _>>=_, is-empty}
+use Rattle.original.specs.Shims.{Result, Ok, Err, nul-found, ensure-no-nuls, _>>=_}
 use Rattle.original.specs.MakeEnvp.{Ordering, Less, Equal, Greater, Compare, at-first, insert, inserted, btree-map, for-env, make-envp}
-use Rattle.original.specs.Domain.{rust-says, port-says, in-domain, fault-says}
-use Rattle.original.specs.DomainLaws.{says-then, fault-then, unless-says, entries-sound}
-use Rattle.original.specs.Wtf8Laws.{both-true}
+use Rattle.original.specs.Domain.{rust-says, port-says, in-domain, finding-says, fault-says}
+use Rattle.original.specs.DomainLaws.{unless-says, entries-sound}
+use Rattle.original.specs.Loops.{says-then, Loop, loop-says}
+use Rattle.original.specs.Laws.{both-true}
 
 -- ---- what the map yields
 
@@ -67,27 +68,46 @@ module _ (compare : Compare) where
 
 -- ---- the block
 
-for-env-says : (place : ℕ) (blk : List ℕ) (env : List Entry)
-    → rust-says (for-env blk env) ≡ fault-says (faultFrom entryNulFinding place env) (blk ++ entryUnits env)
-unfolding for-env faultFrom entryUnits
-for-env-says place blk [] = rw append-nil
-for-env-says place blk (e ∷ env) =
-    go (any isNul (e .key)) (any isNul (e .value)) (for-env-says (place + 1) (blk ++ e .key ++ equals ∷ [] ++ e .value ++ nul ∷ []) env ∙ simp append-assoc)
-  where
-    go : (n m : Bool) → rust-says (for-env (blk ++ e .key ++ equals ∷ [] ++ e .value ++ nul ∷ []) env) ≡ fault-says (faultFrom entryNulFinding (place + 1) env) (blk ++ entryUnits (e ∷ env))
-        → rust-says (pick n (Err nul-found) (Ok (e .key)) >>= λ k. pick m (Err nul-found) (Ok (e .value)) >>= λ v. for-env (blk ++ e .key ++ equals ∷ [] ++ v ++ nul ∷ []) env)
-        ≡ fault-says (faultAt place (wrongIf 5 n (wrongIf 5 m sound)) (faultFrom entryNulFinding (place + 1) env)) (blk ++ entryUnits (e ∷ env))
-    go true m ih = refl
-    go false true ih = refl
-    go false false ih = ih
+-- what is written of an entry
+abbrev entryOne : Entry → List ℕ
+entryOne e = e .key ++ equals ∷ e .value ++ nul ∷ []
+
+-- `?` twice, with what follows behind both or behind the whole
+module _ (k v : List ℕ) where
+  turned : (n m : Bool) (f : List ℕ → List ℕ) (b : List ℕ) (more : List ℕ → Result (List ℕ)) → f v ≡ b
+      → (pick n (Err nul-found) (Ok k) >>= λ k. pick m (Err nul-found) (Ok v) >>= λ v. more (f v))
+      ≡ ((pick n (Err nul-found) (Ok k) >>= λ k. pick m (Err nul-found) (Ok v) >>= λ v. Ok b) >>= more)
+  turned true m f b more e = refl
+  turned false true f b more e = refl
+  turned false false f b more e = rw e
+
+  said : (n m : Bool) (b : List ℕ)
+      → rust-says (pick n (Err nul-found) (Ok k) >>= λ k. pick m (Err nul-found) (Ok v) >>= λ v. Ok b) ≡ finding-says (wrongIf 5 n (wrongIf 5 m sound)) b
+  said true m b = refl
+  said false true b = refl
+  said false false b = refl
+
+-- the loop appends each entry, up to the first with a NUL
+loop : Loop for-env entryNulFinding entryOne entryUnits
+unfolding for-env entryUnits
+loop =
+    record {
+      call = λ blk e. ensure-no-nuls (e .key) >>= λ k. ensure-no-nuls (e .value) >>= λ v. Ok (blk ++ entryOne e);
+      ends = λ blk. refl;
+      turns = λ blk e more.
+          turned (e .key) (e .value) (any isNul (e .key)) (any isNul (e .value)) (λ v. blk ++ e .key ++ equals ∷ [] ++ v ++ nul ∷ []) (blk ++ entryOne e) (λ blk. for-env blk more)
+          (simp append-assoc);
+      says = λ blk e. said (e .key) (e .value) (any isNul (e .key)) (any isNul (e .value)) (blk ++ entryOne e);
+      none = refl;
+      next = λ e more. simp append-assoc;
+    }
 
 -- On all entries that a map yields: the block, or 5 where a key or a value has a NUL.
 pub make-envp-says : (env : List Entry) → rust-says (make-envp (some env)) ≡ fault-says (firstFault entryNulFinding env) (block env)
 unfolding make-envp block faultFrom
 make-envp-says [] = refl
 make-envp-says (e ∷ env) =
-    says-then (λ blk. blk ++ nul ∷ []) (for-env [] (e ∷ env))
-    ∙ rw (for-env-says 1 [] (e ∷ env)) (fault-then (λ blk. blk ++ nul ∷ []) (firstFault entryNulFinding (e ∷ env)) (entryUnits (e ∷ env)))
+    says-then (λ blk. blk ++ nul ∷ []) (for-env [] (e ∷ env)) (firstFault entryNulFinding (e ∷ env)) (entryUnits (e ∷ env)) (loop-says loop 1 [] (e ∷ env))
 
 -- On the oracle's domain the Rust and the port say the same.
 pub make-envp-same : (compare : Compare) (records text : List ℕ) (room : ℕ)

@@ -1,23 +1,23 @@
 -- `parse_lp_cmd_line` reads the arguments of the rules. Assumes nothing.
-use Prim.Native.Nat.{ℕ, zero, suc, _+_, _/_, _%_, _≤_}
+use Prim.Native.Nat.{ℕ, zero, suc, _+_, _/_, _≤_}
 use native.Mathlib.Omega.{arith}
 use native.Mathlib.Nat.{add-zero}
-use borrow.Author.Tests.{eqb-true}
 use mathlib.Core.Path.{_≡_, refl, sym, ap, _∙_}
 use mathlib.Core.Bool.{Bool, true, false}
 use mathlib.Core.List.{List, [], _∷_, _++_, append-assoc, append-nil}
-use mathlib.Core.Option.{Option, none, some}
-use lib.Dec.{ltb, eqb}
+use mathlib.Core.Option.{none, some}
+use lib.Dec.{ltb}
 use lib.ListN.{length}
-use Rattle.rules.specs.Choice.{pick, either, both, flip, isEmpty}
-use Rattle.rules.specs.Unit.{isNul, isQuote, isBackslash, isBlank, quote, backslash}
+use Rattle.rules.specs.Choice.{pick, either, flip, isEmpty}
+use Rattle.rules.specs.Unit.{isQuote, isBackslash, isBlank, quote, backslash}
 use Rattle.rules.specs.Outcome.{done, refuse}
 use Rattle.rules.specs.Quoting.{slashes}
-use Rattle.rules.specs.Reading.{lineOf, argument0, behind0, Mode, between, outside, inside, closing, taking, odd, last, later, arguments, argumentsRead, unitsRead, readLimit, placesOf, joined, reading}
+use Rattle.rules.specs.Reading.{lineOf, argument0, behind0, Mode, between, outside, inside, closing, taking, odd, later, arguments, argumentsRead, unitsRead, readLimit, placesOf, joined, reading}
+use Rattle.laws.specs.Kind.{Kind, slash, marked, other, kind}
 use Rattle.original.specs.Shims.{_==Some_, peek, next, w-str-units, advance-while}
-use Rattle.original.specs.ParseLpCmdLine.{Turn, Next, Break, go-on, for-w, Locals, match-w, while-w, parse-lp-cmd-line}
+use Rattle.original.specs.ParseLpCmdLine.{Turn, go-on, for-w, Locals, match-w, while-w, parse-lp-cmd-line}
 use Rattle.original.specs.Domain.{gives, port-says, in-domain}
-use Rattle.original.specs.Laws.{both-false, Kind, slash, mark, other, kind}
+use Rattle.original.specs.Laws.{both-false}
 
 -- ---- runs that are passed
 
@@ -38,7 +38,7 @@ Skips xs = later between 0 [] xs ≡ later outside 0 [] (advance-while isBlank x
 skips-step : {x : ℕ} (xs : List ℕ) → Kind x → Skips xs → Skips (x ∷ xs)
 unfolding later advance-while
 skips-step xs slash ih = refl
-skips-step xs mark ih = refl
+skips-step xs marked ih = refl
 skips-step xs (other {x} p r) ih = go (isBlank x) refl
   where
     go : (b : Bool) → isBlank x ≡ b → Skips (x ∷ xs)
@@ -149,7 +149,7 @@ module _ (more : List (List ℕ) → List ℕ → Bool → List ℕ → Locals) 
       go : {x : ℕ} → Kind x → peek (x ∷ left) ==Some 92 ≡ false → length (x ∷ left) ≤ most
           → finish (more ret-val (escapes k cur (x ∷ left) .0) q (escapes k cur (x ∷ left) .1)) ≡ ret-val ++ later (mode q) k cur (x ∷ left)
       go slash h l = cc
-      go mark h l = before-mark q k ret-val cur left l
+      go marked h l = before-mark q k ret-val cur left l
       go (other {x} p r) h l = no-mark q k x ret-val cur left p r l
 
   -- the loop after a turn
@@ -177,7 +177,7 @@ module _ (more : List (List ℕ) → List ℕ → Bool → List ℕ → Locals) 
     where
       go : {x : ℕ} → Kind x → length (x ∷ rest) ≤ most → finish (on (match-w ret-val cur true quote (x ∷ rest))) ≡ ret-val ++ later inside 0 cur (quote ∷ x ∷ rest)
       go slash l = does ret-val cur false (92 ∷ rest) l ∙ rw append-nil
-      go mark l = does ret-val (cur ++ quote ∷ []) true rest (omega arith) ∙ simp append-nil
+      go marked l = does ret-val (cur ++ quote ∷ []) true rest (omega arith) ∙ simp append-nil
       go (other {x} p r) l =
           let e : on (match-w ret-val cur true quote (x ∷ rest)) ≡ more ret-val cur false (x ∷ rest) = simp r in
           let d : later inside 0 cur (quote ∷ x ∷ rest) ≡ later outside 0 cur (x ∷ rest) =
@@ -204,7 +204,7 @@ module _ (more : List (List ℕ) → List ℕ → Bool → List ℕ → Locals) 
   -- a turn does right by its unit
   turn-same : {w : ℕ} (rest : List ℕ) → Kind w → length rest ≤ most → Turns w rest
   turn-same rest slash l = slash-turn rest l
-  turn-same rest mark l = mark-turn rest l
+  turn-same rest marked l = mark-turn rest l
   turn-same rest (other {x} p r) l = other-turn x p r rest l
 
 -- ---- the loops

@@ -1,14 +1,14 @@
--- Laws of tests, units and runs of backslashes that the theorems cite. Assumes nothing.
-use Prim.Native.Nat.{ℕ, zero, suc, _+_, _*_}
+-- Laws of tests and of runs of backslashes that the theorems cite. Assumes nothing.
+use Prim.Native.Nat.{ℕ, _+_, _*_, _≤_}
 use native.Mathlib.Omega.{arith}
-use native.Mathlib.Numerals.{add-one}
-use borrow.Author.Tests.{eqb-true}
-use mathlib.Core.Path.{_≡_, refl, ap}
+use borrow.Author.Tests.{leb-true}
+use mathlib.Core.Path.{_≡_, refl}
 use mathlib.Core.Bool.{Bool, true, false}
-use mathlib.Core.List.{List, [], _∷_, _++_, append-assoc, append-nil}
+use mathlib.Core.List.{List, [], _∷_, _++_, append-assoc}
+use lib.Dec.{leb}
 use lib.ListN.{replicate-append-replicate}
 use Rattle.rules.specs.Choice.{pick, either, both}
-use Rattle.rules.specs.Unit.{isQuote, isBackslash, backslash, quote}
+use Rattle.rules.specs.Unit.{within, backslash, quote}
 use Rattle.rules.specs.Quoting.{slashes, enclosed}
 
 -- ---- tests
@@ -30,27 +30,14 @@ either-comm true false = refl
 either-comm false true = refl
 either-comm false false = refl
 
--- two tests of which neither holds
-pub neither : (a b : Bool) → either a b ≡ false → (a ≡ false) × (b ≡ false)
-neither true b h = (h, cc)
-neither false b h = (refl, h)
+-- what two tests together say
+pub both-true : (a b : Bool) → both a b ≡ true → (a ≡ true) × (b ≡ true)
+both-true true b h = (refl, h)
+both-true false b h = (h, cc)
 
--- ---- units
-
--- a backslash, a quote mark or any other unit: to match on `kind x` puts the number for x, so that every test on it computes
-pub data Kind : ℕ → Type 0 where
-  slash : Kind 92
-  mark : Kind 34
-  other : {x : ℕ} → isBackslash x ≡ false → isQuote x ≡ false → Kind x
-
--- the kind of a unit
-pub kind : (x : ℕ) → Kind x
-kind x = go (isBackslash x) (isQuote x) refl refl
-  where
-    go : (b c : Bool) → isBackslash x ≡ b → isQuote x ≡ c → Kind x
-    go true c p q = rw (eqb-true x 92 p) slash
-    go false true p q = rw (eqb-true x 34 q) mark
-    go false false p q = other p q
+-- what is within two bounds is at least the first
+pub within-least : (a b x : ℕ) → within a b x ≡ true → a ≤ x
+within-least a b x h = leb-true a x (both-true (leb a x) (leb x b) h .0)
 
 -- ---- runs of backslashes
 
@@ -77,9 +64,16 @@ pub at-end : (q : Bool) (k : ℕ) (front : List ℕ) → closed q (front ++ slas
 at-end true k front = rw (append-assoc front, slashes-twice k)
 at-end false k front = refl
 
--- a loop that appends a body, between the statements that open and close the quotes, appends the body or the body in quotes
+-- the statement that opens the quotes
+abbrev pub opened : Bool → List ℕ → List ℕ
+opened q cmd = pick q (cmd ++ quote ∷ []) cmd
+
+-- the statements that close them
+abbrev pub ended : Bool → List ℕ × ℕ → List ℕ
+ended q (cmd, backslashes) = pick q (cmd ++ slashes backslashes ++ quote ∷ []) cmd
+
+-- a loop that appends a body, between these statements, appends the body or the body in quotes
 pub appended : (loop : List ℕ → List ℕ × ℕ) (body : Bool → List ℕ) → ((q : Bool) (cmd : List ℕ) → closed q (loop cmd) ≡ cmd ++ body q)
-    → (q : Bool) (cmd : List ℕ) → pick q (loop (pick q (cmd ++ quote ∷ []) cmd) .0 ++ slashes (loop (pick q (cmd ++ quote ∷ []) cmd) .1) ++ quote ∷ []) (loop (pick q (cmd ++ quote ∷ []) cmd) .0)
-    ≡ cmd ++ pick q (enclosed (body true)) (body false)
+    → (q : Bool) (cmd : List ℕ) → ended q (loop (opened q cmd)) ≡ cmd ++ pick q (enclosed (body true)) (body false)
 appended loop body h true cmd = rw (h true (cmd ++ quote ∷ [])) (simp append-assoc)
 appended loop body h false cmd = h false cmd

@@ -4,7 +4,7 @@ use mathlib.Core.Bool.{Bool}
 use mathlib.Core.List.{List, [], _∷_}
 use Rattle.rules.specs.Choice.{any}
 use Rattle.rules.specs.Unit.{units}
-use Rattle.original.specs.Shims.{if_then_else_, _==Some_, _||_, u16, Result, Ok, Err, invalid-argument, invalid-script, _>>=_, push, extend, contains, last, strip-suffix, unwrap-or}
+use Rattle.original.specs.Shims.{if_then_else_, _==Some_, _||_, u16, Result, Ok, Err, invalid-argument, invalid-script, push, extend, contains, last, strip-suffix, unwrap-or, _>>=_}
 use Rattle.original.specs.Wtf8.{as-encoded-bytes}
 use Rattle.original.specs.AppendArg.{Arg, Regular, Raw, append-arg}
 use Rattle.original.specs.AppendBatArg.{append-bat-arg}

@@ -2,7 +2,7 @@
 use Prim.Native.Nat.{ℕ}
 use mathlib.Core.Bool.{Bool}
 use mathlib.Core.List.{List, [], _∷_}
-use Rattle.original.specs.Shims.{u16, Result, Ok, _>>=_, push, extend}
+use Rattle.original.specs.Shims.{u16, Result, Ok, push, extend, _>>=_}
 use Rattle.original.specs.Wtf8.{encode-wide}
 use Rattle.original.specs.AppendArg.{Arg, append-arg}
 

@@ -1,9 +1,8 @@
 -- `make_envp` (process/windows.rs), statement by statement, and the map that it is given. Assumes nothing.
 use Prim.Native.Nat.{ℕ}
-use mathlib.Core.Bool.{Bool, true, false}
 use mathlib.Core.List.{List, [], _∷_}
 use mathlib.Core.Option.{Option, none, some}
-use Rattle.original.specs.Shims.{if_then_else_, u16, Result, Ok, ensure-no-nuls, _>>=_, push, extend, is-empty}
+use Rattle.original.specs.Shims.{if_then_else_, u16, Result, Ok, ensure-no-nuls, push, extend, is-empty, _>>=_}
 use Rattle.original.specs.Wtf8.{encode-wide}
 use Rattle.rules.specs.Record.{Entry}
 

@@ -1,10 +1,9 @@
 -- Why each hypothesis of the theorems is there: for each a smallest input outside it, where the Rust and the port part. Assumes nothing.
-use Prim.Native.Nat.{ℕ}
 use mathlib.Core.Path.{_≡_, refl}
-use mathlib.Core.Bool.{Bool, true, false}
-use mathlib.Core.List.{List, [], _∷_, _++_}
-use mathlib.Core.Option.{Option, none, some}
-use lib.Dec.{ltb, eqb}
+use mathlib.Core.Bool.{false}
+use mathlib.Core.List.{[], _∷_, _++_}
+use mathlib.Core.Option.{some}
+use lib.Dec.{ltb}
 use lib.ListN.{replicate}
 use Rattle.rules.specs.Choice.{pick}
 use Rattle.rules.specs.Unit.{units, nul}
@@ -14,12 +13,12 @@ use Rattle.rules.specs.Building.{commandLine, batchCommandLine}
 use Rattle.rules.specs.Block.{environmentBlock}
 use Rattle.rules.specs.Reading.{reading}
 use Rattle.rules.specs.Status.{statusText}
-use Rattle.original.specs.Shims.{Result, Ok, w-str-units}
+use Rattle.original.specs.Shims.{Ok, w-str-units}
 use Rattle.original.specs.AppendBatArg.{append-bat-arg}
 use Rattle.original.specs.MakeCommandLine.{make-command-line}
 use Rattle.original.specs.MakeBatCommandLine.{make-bat-command-line}
 use Rattle.original.specs.ParseLpCmdLine.{parse-lp-cmd-line}
-use Rattle.original.specs.MakeEnvp.{Ordering, Less, Equal, Greater, Compare, btree-map, make-envp}
+use Rattle.original.specs.MakeEnvp.{Less, Equal, Greater, Compare, btree-map, make-envp}
 use Rattle.original.specs.ExitStatus.{exit-display}
 use Rattle.original.specs.Domain.{Told, gives, refuses, rust-says, port-says}
 

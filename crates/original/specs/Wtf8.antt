@@ -1,7 +1,7 @@
 -- A text of units as WTF-8: its code points and its bytes. Assumes nothing.
 -- The Rust keeps an `OsStr` as WTF-8 bytes that encode its code points, and `encode_wide` gives the units back; here the units are the text.
 use Prim.Native.Nat.{ℕ, _+_, _-_, _*_, _/_, _%_}
-use mathlib.Core.Bool.{Bool, true, false}
+use mathlib.Core.Bool.{Bool}
 use mathlib.Core.List.{List, [], _∷_, _++_}
 use mathlib.Core.Option.{Option, none, some}
 use lib.Dec.{ltb}

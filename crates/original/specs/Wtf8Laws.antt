@@ -1,25 +1,16 @@
 -- What tests on the bytes of a text tell: bytes below 128 stand for units below 128. Assumes nothing.
-use Prim.Native.Nat.{ℕ, _+_, _*_, _-_, _/_, _%_, _≤_, _<_}
+use Prim.Native.Nat.{ℕ, _+_, _/_, _%_, _≤_}
 use native.Mathlib.Omega.{arith}
-use borrow.Author.Tests.{ltb-true, ltb-false, leb-true, ne-eqb}
+use borrow.Author.Tests.{ltb-false, ne-eqb}
 use mathlib.Core.Path.{_≡_, refl, _∙_}
 use mathlib.Core.Bool.{Bool, true, false}
-use mathlib.Core.List.{List, [], _∷_, _++_, append-nil}
-use lib.Dec.{ltb, leb, eqb}
+use mathlib.Core.List.{List, [], _∷_, _++_}
+use lib.Dec.{ltb, eqb}
 use Rattle.rules.specs.Choice.{pick, either, both, any, isEmpty}
-use Rattle.rules.specs.Unit.{isBackslash, within}
 use Rattle.rules.specs.Batch.{endsInBackslash}
+use Rattle.original.specs.Laws.{both-true, within-least}
 use Rattle.original.specs.Shims.{_==Some_, last}
 use Rattle.original.specs.Wtf8.{is-high, is-low, pair, code-points, encoded, bytes, as-encoded-bytes}
-
--- what two tests together say
-pub both-true : (a b : Bool) → both a b ≡ true → (a ≡ true) × (b ≡ true)
-both-true true b h = (refl, h)
-both-true false b h = (h, cc)
-
--- what is within two bounds is at least the first
-pub within-least : (a b x : ℕ) → within a b x ≡ true → a ≤ x
-within-least a b x h = leb-true a x (both-true (leb a x) (leb x b) h .0)
 
 -- ---- a test on bytes that holds of none from 128 up
 module _ (p : ℕ → Bool) (high : (b : ℕ) → 128 ≤ b → p b ≡ false) where
