@@ -23,7 +23,7 @@ and-high-bit n = n / 0x80000000 % 2 * 0x80000000
 abbrev pub digit : ℕ → ℕ
 digit d = if ltb d 10 then u16 "0" + d else u16 "a" + (d - 10)
 
--- the digits of a number in a base, in front of those already found, at most so many of them and one
+-- the digits of a number in a base, in front of those already found; at most one more than the number says
 unfoldable pub formatted : ℕ → ℕ → ℕ → List ℕ → List ℕ
 formatted base zero n found = digit (n % base) ∷ found
 formatted base (suc more) n found = do

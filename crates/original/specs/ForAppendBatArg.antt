@@ -150,7 +150,8 @@ isReturn x = eqb x carriageReturn
 
 -- behind k backslashes that are written already, the loop and what closes write the units that `batchEscaped` has
 abbrev Writes : Bool → List ℕ → Type 0
-Writes q xs = any isReturn xs ≡ false → (k : ℕ) (front cmd : List ℕ) → cmd ≡ front ++ slashes k → closed q (for-bat-units cmd k xs) ≡ front ++ batchEscaped q k xs
+Writes q xs =
+    any isReturn xs ≡ false → (k : ℕ) (front cmd : List ℕ) → cmd ≡ front ++ slashes k → closed q (for-bat-units cmd k xs) ≡ front ++ batchEscaped q k xs
 
 writes-step : (q : Bool) {x : ℕ} (xs : List ℕ) → Kind x → Hack x → Writes q xs → Writes q (x ∷ xs)
 unfolding for-bat-units batchEscaped

@@ -79,7 +79,9 @@ module _ (base : ℕ) (b : Base base) where
   same-digits (suc fuel) (suc more) n found l h =
       go (same-digits fuel more (n / base) (glyph (n % base) ∷ found) (omega arith) (b .falls n (past base fuel) h)) (ltb n base) refl
     where
-      go : formatted base more (n / base) (glyph (n % base) ∷ found) ≡ digits base fuel (n / base) ++ glyph (n % base) ∷ found → (t : Bool) → ltb n base ≡ t → formatted base (suc more) n found ≡ pick t (glyph n ∷ []) (digits base fuel (n / base) ++ glyph (n % base) ∷ []) ++ found
+      go : formatted base more (n / base) (glyph (n % base) ∷ found) ≡ digits base fuel (n / base) ++ glyph (n % base) ∷ found
+          → (t : Bool) → ltb n base ≡ t
+          → formatted base (suc more) n found ≡ pick t (glyph n ∷ []) (digits base fuel (n / base) ++ glyph (n % base) ∷ []) ++ found
       go ih true e = last-digit (suc more) n found (ltb-true n base e) ∙ rw (b .is-rest n (ltb-true n base e))
       go ih false e =
           rw (ne-eqb (n / base) 0 (b .some-left n (ltb-false n base e)), digit-same (n % base), append-assoc (digits base fuel (n / base))) ih

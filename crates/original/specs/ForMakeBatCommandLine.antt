@@ -65,7 +65,8 @@ no-return (x ∷ xs) h =
 
 -- ---- an argument
 
-module _ (call : Append) (calls : (cmd arg : List ℕ) (force : Bool) → any isReturn arg ≡ false → call cmd arg force ≡ append-bat-arg cmd arg force) where
+module _ (call : Append)
+    (calls : (cmd arg : List ℕ) (force : Bool) → any isReturn arg ≡ false → call cmd arg force ≡ append-bat-arg cmd arg force) where
   match-unreached : (cmd : List ℕ) (arg : Arg) (force : Bool) → match-arg call cmd arg force ≡ match-arg append-bat-arg cmd arg force
   unfolding match-arg
   match-unreached cmd (Regular arg) force = go (any isLineBreak arg) refl

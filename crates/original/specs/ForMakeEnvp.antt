@@ -95,7 +95,8 @@ loop =
       call = λ blk e. ensure-no-nuls (e .key) >>= λ k. ensure-no-nuls (e .value) >>= λ v. Ok (blk ++ entryOne e);
       ends = λ blk. refl;
       turns = λ blk e more.
-          turned (e .key) (e .value) (any isNul (e .key)) (any isNul (e .value)) (λ v. blk ++ e .key ++ equals ∷ [] ++ v ++ nul ∷ []) (blk ++ entryOne e) (λ blk. for-env blk more)
+          turned (e .key) (e .value) (any isNul (e .key)) (any isNul (e .value))
+          (λ v. blk ++ e .key ++ equals ∷ [] ++ v ++ nul ∷ []) (blk ++ entryOne e) (λ blk. for-env blk more)
           (simp append-assoc);
       says = λ blk e. said (e .key) (e .value) (any isNul (e .key)) (any isNul (e .value)) (blk ++ entryOne e);
       none = refl;
@@ -107,7 +108,8 @@ pub make-envp-says : (env : List Entry) → rust-says (make-envp (some env)) ≡
 unfolding make-envp block faultFrom
 make-envp-says [] = refl
 make-envp-says (e ∷ env) =
-    says-then (λ blk. blk ++ nul ∷ []) (for-env [] (e ∷ env)) (firstFault entryNulFinding (e ∷ env)) (entryUnits (e ∷ env)) (loop-says loop 1 [] (e ∷ env))
+    says-then (λ blk. blk ++ nul ∷ []) (for-env [] (e ∷ env)) (firstFault entryNulFinding (e ∷ env)) (entryUnits (e ∷ env))
+    (loop-says loop 1 [] (e ∷ env))
 
 -- On the oracle's domain the Rust and the port say the same.
 pub make-envp-same : (compare : Compare) (records text : List ℕ) (room : ℕ)

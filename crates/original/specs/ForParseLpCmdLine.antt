@@ -27,7 +27,8 @@ unfolding advance-while
 left-short p [] = omega arith
 left-short p (x ∷ xs) = go (p x) (left-short p xs)
   where
-    go : (b : Bool) → length (advance-while p xs .1) ≤ length xs → length ((pick {A = ℕ × List ℕ} b (advance-while p xs .0 + 1, advance-while p xs .1) (0, x ∷ xs)) .1) ≤ suc (length xs)
+    go : (b : Bool) → length (advance-while p xs .1) ≤ length xs
+        → length ((pick {A = ℕ × List ℕ} b (advance-while p xs .0 + 1, advance-while p xs .1) (0, x ∷ xs)) .1) ≤ suc (length xs)
     go true h = omega arith
     go false h = omega arith
 
@@ -62,7 +63,8 @@ stopped (x ∷ xs) = go (isBackslash x) refl (stopped xs)
     go false e h = e
 
 -- a run of backslashes is counted
-counted : (m : Mode) → taking m ≡ m → (k : ℕ) (cur xs : List ℕ) → later m k cur xs ≡ later m (k + advance-while isBackslash xs .0) cur (advance-while isBackslash xs .1)
+counted : (m : Mode) → taking m ≡ m → (k : ℕ) (cur xs : List ℕ)
+    → later m k cur xs ≡ later m (k + advance-while isBackslash xs .0) cur (advance-while isBackslash xs .1)
 unfolding later advance-while
 counted m t k cur [] = rw add-zero
 counted m t k cur (x ∷ xs) = go (isBackslash x) refl (counted m t (k + 1) cur xs)
@@ -134,7 +136,8 @@ module _ (more : List (List ℕ) → List ℕ → Bool → List ℕ → Locals) 
       go false e = simp e (does ret-val (cur ++ slashes (k / 2)) q (quote ∷ left) l ∙ rw append-nil)
 
   -- behind it stands no quote mark
-  no-mark : (q : Bool) (k x : ℕ) (ret-val : List (List ℕ)) (cur left : List ℕ) → isBackslash x ≡ false → isQuote x ≡ false → length (x ∷ left) ≤ most
+  no-mark : (q : Bool) (k x : ℕ) (ret-val : List (List ℕ)) (cur left : List ℕ)
+      → isBackslash x ≡ false → isQuote x ≡ false → length (x ∷ left) ≤ most
       → finish (more ret-val (escapes k cur (x ∷ left) .0) q (escapes k cur (x ∷ left) .1)) ≡ ret-val ++ later (mode q) k cur (x ∷ left)
   no-mark q k x ret-val cur left p r l =
       rw (r, settled (mode q) k x cur left p r) (does ret-val (cur ++ slashes k) q (x ∷ left) l)
@@ -157,7 +160,8 @@ module _ (more : List (List ℕ) → List ℕ → Bool → List ℕ → Locals) 
   on turn = go-on turn (λ (ret-val, cur, in-quotes, code-units). more ret-val cur in-quotes code-units) (λ locals. locals)
 
   abbrev Turns : ℕ → List ℕ → Type 0
-  Turns w rest = (q : Bool) (ret-val : List (List ℕ)) (cur : List ℕ) → finish (on (match-w ret-val cur q w rest)) ≡ ret-val ++ later (mode q) 0 cur (w ∷ rest)
+  Turns w rest =
+      (q : Bool) (ret-val : List (List ℕ)) (cur : List ℕ) → finish (on (match-w ret-val cur q w rest)) ≡ ret-val ++ later (mode q) 0 cur (w ∷ rest)
 
   slash-turn : (rest : List ℕ) → length rest ≤ most → Turns backslash rest
   unfolding match-w later
@@ -175,7 +179,8 @@ module _ (more : List (List ℕ) → List ℕ → Bool → List ℕ → Locals) 
   mark-inside [] l ret-val cur = finished true ret-val cur ∙ simp append-nil
   mark-inside (x ∷ rest) l ret-val cur = go (kind x) l
     where
-      go : {x : ℕ} → Kind x → length (x ∷ rest) ≤ most → finish (on (match-w ret-val cur true quote (x ∷ rest))) ≡ ret-val ++ later inside 0 cur (quote ∷ x ∷ rest)
+      go : {x : ℕ} → Kind x → length (x ∷ rest) ≤ most
+          → finish (on (match-w ret-val cur true quote (x ∷ rest))) ≡ ret-val ++ later inside 0 cur (quote ∷ x ∷ rest)
       go slash l = does ret-val cur false (92 ∷ rest) l ∙ rw append-nil
       go marked l = does ret-val (cur ++ quote ∷ []) true rest (omega arith) ∙ simp append-nil
       go (other {x} p r) l =
@@ -222,7 +227,8 @@ while-same (suc turns) ret-val cur q (w ∷ rest) l = turn-same (while-w turns) 
 abbrev Named : Bool → List ℕ → List ℕ → Type 0
 Named q cur xs = (for-w cur q xs .0 ≡ cur ++ argument0 q xs) × (for-w cur q xs .2 ≡ behind0 q xs)
 
-named-step : (x : ℕ) (cur xs : List ℕ) (a b : Bool) → isQuote x ≡ a → isBlank x ≡ b → (q : Bool) → Named (flip q) cur xs → Named q (cur ++ x ∷ []) xs → Named q cur (x ∷ xs)
+named-step : (x : ℕ) (cur xs : List ℕ) (a b : Bool) → isQuote x ≡ a → isBlank x ≡ b → (q : Bool)
+    → Named (flip q) cur xs → Named q (cur ++ x ∷ []) xs → Named q cur (x ∷ xs)
 unfolding for-w argument0 behind0
 named-step x cur xs true b e d q toggled pushed = (simp e (toggled .0), simp e (toggled .1))
 named-step x cur xs false true e d true toggled pushed = (simp (e, d) (pushed .0 ∙ simp append-assoc), simp (e, d) (pushed .1))
@@ -256,6 +262,11 @@ pub parse-lp-cmd-line-is : (line exe-name : List ℕ) → parse-lp-cmd-line (som
 unfolding parse-lp-cmd-line
 parse-lp-cmd-line-is [] exe-name = refl
 parse-lp-cmd-line-is (x ∷ xs) exe-name = listed x xs exe-name
+
+-- An empty line, where `peek` finds nothing, is read as the name of the executable.
+pub parse-empty : (exe-name : List ℕ) → parse-lp-cmd-line (some []) exe-name ≡ exe-name ∷ []
+unfolding parse-lp-cmd-line
+parse-empty exe-name = refl
 
 -- A null pointer is read as an empty line is.
 pub parse-null : (exe-name : List ℕ) → parse-lp-cmd-line none exe-name ≡ argumentsRead exe-name []

@@ -15,7 +15,8 @@ ensured-says true xs e = refl
 ensured-says false xs e = ap gives e
 
 -- a statement behind all others
-pub says-then : {A B : Type 0} (f : A → B) (r : Result A) (g : Fault) (a : A) → rust-says r ≡ fault-says g a → rust-says (r >>= λ a. Ok (f a)) ≡ fault-says g (f a)
+pub says-then : {A B : Type 0} (f : A → B) (r : Result A) (g : Fault) (a : A) → rust-says r ≡ fault-says g a
+    → rust-says (r >>= λ a. Ok (f a)) ≡ fault-says g (f a)
 says-then f (Ok b) faultless a e = let d : b ≡ a = cc in rw d
 says-then f (Ok b) (fault number place) a e = cc
 says-then f (Err x) faultless a e = cc
@@ -41,7 +42,8 @@ pub record Loop {A : Type 0} (loop : List ℕ → List A → Result (List ℕ)) 
 
 -- it appends all of them, or gives the error of what is found first
 pub loop-says : {A : Type 0} {loop : List ℕ → List A → Result (List ℕ)} {find : A → Finding} {one : A → List ℕ} {all : List A → List ℕ}
-    → Loop loop find one all → (place : ℕ) (v : List ℕ) (records : List A) → rust-says (loop v records) ≡ fault-says (faultFrom find place records) (v ++ all records)
+    → Loop loop find one all → (place : ℕ) (v : List ℕ) (records : List A)
+    → rust-says (loop v records) ≡ fault-says (faultFrom find place records) (v ++ all records)
 unfolding faultFrom
 loop-says l place v [] = rw (l .ends v, l .none, append-nil v)
 loop-says {loop = loop} {find = find} {one = one} {all = all} l place v (a ∷ more) =

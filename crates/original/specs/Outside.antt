@@ -1,6 +1,6 @@
 -- Why each hypothesis of the theorems is there: for each a smallest input outside it, where the Rust and the port part. Assumes nothing.
 use mathlib.Core.Path.{_≡_, refl}
-use mathlib.Core.Bool.{false}
+use mathlib.Core.Bool.{true, false}
 use mathlib.Core.List.{[], _∷_, _++_}
 use mathlib.Core.Option.{some}
 use lib.Dec.{ltb}
@@ -20,17 +20,37 @@ use Rattle.original.specs.MakeBatCommandLine.{make-bat-command-line}
 use Rattle.original.specs.ParseLpCmdLine.{parse-lp-cmd-line}
 use Rattle.original.specs.MakeEnvp.{Less, Equal, Greater, Compare, btree-map, make-envp}
 use Rattle.original.specs.ExitStatus.{exit-display}
-use Rattle.original.specs.Domain.{Told, gives, refuses, rust-says, port-says}
+use Rattle.original.specs.Domain.{Told, gives, refuses, rust-says, port-says, in-domain}
 
 -- what the Rust says, beside what the port says
 abbrev pub Parts : {A : Type 0} → Told A → Told A → Told A → Told A → Type 0
 Parts rust said port says = (rust ≡ said) × (port ≡ says)
 
+-- ---- inside: a result, 5, 6 and 7 are in the domain, 1 to 4 are not
+
+-- of a line: a result, 5, 1, 2, 4; of a batch line: a result, 7, 6; of reading: a result, 3
+pub in-and-out :
+    in-domain (commandLine false [] [] [] 2)
+    ∷ in-domain (commandLine false [] (0 ∷ 0 ∷ 1 ∷ []) (nul ∷ []) 0)
+    ∷ in-domain (commandLine false [] (0 ∷ []) [] 2)
+    ∷ in-domain (commandLine false (replicate 32766 97) [] [] 32768)
+    ∷ in-domain (commandLine false [] [] [] 1)
+    ∷ in-domain (batchCommandLine false [] [] [] 31)
+    ∷ in-domain (batchCommandLine false (34 ∷ []) [] [] 0)
+    ∷ in-domain (batchCommandLine false [] (0 ∷ 0 ∷ 1 ∷ []) (13 ∷ []) 0)
+    ∷ in-domain (reading [] [] 0 2)
+    ∷ in-domain (reading [] [] 0 1)
+    ∷ []
+    ≡ true ∷ true ∷ false ∷ false ∷ false ∷ true ∷ true ∷ true ∷ true ∷ false ∷ []
+unfolding commandLine batchCommandLine reading
+in-and-out = refl
+
 -- ---- `make_command_line`
 
 -- A NUL in the program: the comment on the function promises an error for it, the code has no such test, the port has.
 pub nul-in-program :
-    Parts (rust-says (make-command-line (nul ∷ []) [] false)) (gives (34 ∷ 0 ∷ 34 ∷ [])) (port-says (commandLine false (nul ∷ []) [] [] 3)) (refuses 5)
+    Parts (rust-says (make-command-line (nul ∷ []) [] false)) (gives (34 ∷ 0 ∷ 34 ∷ []))
+    (port-says (commandLine false (nul ∷ []) [] [] 3)) (refuses 5)
 unfolding make-command-line commandLine
 nul-in-program = (refl, refl)
 

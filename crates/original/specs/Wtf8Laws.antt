@@ -27,7 +27,8 @@ module _ (p : ℕ → Bool) (high : (b : ℕ) → 128 ≤ b → p b ≡ false) w
           rw (ea, eb, ec, high cp h, high (0xe0 + cp / 4096) (omega arith), high (0x80 + cp / 64 % 64) (omega arith), high (0x80 + cp % 64) (omega arith))
       go false false false ea eb ec =
           let h : 128 ≤ cp = ltb-false cp 128 ea in
-          rw (ea, eb, ec, high cp h, high (0xf0 + cp / 262144) (omega arith), high (0x80 + cp / 4096 % 64) (omega arith), high (0x80 + cp / 64 % 64) (omega arith), high (0x80 + cp % 64) (omega arith))
+          rw (ea, eb, ec, high cp h, high (0xf0 + cp / 262144) (omega arith), high (0x80 + cp / 4096 % 64) (omega arith))
+          (rw (high (0x80 + cp / 64 % 64) (omega arith), high (0x80 + cp % 64) (omega arith)))
 
   -- a pair, or the first unit alone
   split-any : (x y : ℕ) (ys : List ℕ) → any p (bytes (code-points ys)) ≡ any p ys → any p (bytes (code-points (y ∷ ys))) ≡ any p (y ∷ ys)
