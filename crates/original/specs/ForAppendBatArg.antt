@@ -29,6 +29,7 @@ unfoldable needs : ℕ → Bool
 unfolding UNQUOTED
 needs cp = either (both (is-ascii cp) (flip (either (is-ascii-alphanumeric cp) (contains UNQUOTED cp)))) (is-control cp)
 
+-- two tests say the same
 agree : Bool → Bool → Bool
 agree true b = b
 agree false b = flip b
@@ -91,10 +92,12 @@ one-point q cp cps = go (within 0xd800 0xdfff cp) refl
     go true e = simp (e, no-forcing cp (omega (arith, within-least 0xd800 0xdfff cp e)), either-false q)
     go false e = rw (e, ← needs-same cp) (ap (λ q. for-code-points q cps) (set-by (needs cp) q))
 
+-- tests one after another
 either-assoc : (a b c : Bool) → either (either a b) c ≡ either a (either b c)
 either-assoc true b c = refl
 either-assoc false b c = refl
 
+-- the code points decide on quotes as the units do
 abbrev Decides : List ℕ → Type 0
 Decides xs = (q : Bool) → for-code-points q (code-points xs) ≡ either q (any isForcing xs)
 
@@ -110,13 +113,14 @@ split-decides x y ys ih ih′ q = go (both (is-high x) (is-low y)) refl
         rw (e, one-point q (pair x y), no-forcing (pair x y) (omega arith), either-false q, hx, hy) (ih q)
     go false e = rw (e, one-point q x, ih′ (either q (isForcing x))) (either-assoc q (isForcing x) (any isForcing (y ∷ ys)))
 
--- the code points decide as the units do: an unpaired surrogate does not force, and neither does a pair
+-- an unpaired surrogate does not force, and neither does a pair
 decides : (xs : List ℕ) → Decides xs
 unfolding code-points for-code-points
 decides [] = λ q. rw (either-false q)
 decides (x ∷ []) = λ q. one-point q x [] ∙ rw (either-false (isForcing x))
 decides (x ∷ y ∷ ys) = split-decides x y ys (decides ys) (decides (y ∷ ys))
 
+-- the Rust's two statements that set `quote`, and the rule's four tests
 in-turn : (a b c f : Bool) → either (pick (either a b) true f) c ≡ either f (either a (either b c))
 in-turn true b c true = refl
 in-turn true b c false = refl
@@ -137,6 +141,7 @@ data Hack : ℕ → Type 0 where
   hidden : Hack 37
   shown : {x : ℕ} → isPercent x ≡ false → Hack x
 
+-- which of the two a unit is
 hack : (x : ℕ) → Hack x
 hack x = go (isPercent x) refl
   where

@@ -159,6 +159,7 @@ module _ (more : List (List ℕ) → List ℕ → Bool → List ℕ → Locals) 
   abbrev on : Turn Locals → Locals
   on turn = go-on turn (λ (ret-val, cur, in-quotes, code-units). more ret-val cur in-quotes code-units) (λ locals. locals)
 
+  -- the turn on a unit, and the loop behind it, read what the rules read from that unit on
   abbrev Turns : ℕ → List ℕ → Type 0
   Turns w rest =
       (q : Bool) (ret-val : List (List ℕ)) (cur : List ℕ) → finish (on (match-w ret-val cur q w rest)) ≡ ret-val ++ later (mode q) 0 cur (w ∷ rest)
