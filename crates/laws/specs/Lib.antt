@@ -16,3 +16,4 @@ pub mod Answer
 pub mod Front
 pub mod Span
 pub mod Told
+pub mod Parts

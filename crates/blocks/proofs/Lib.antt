@@ -1,0 +1,4 @@
+pub mod Flat
+pub mod Faults
+pub mod Entries
+pub mod Deciding
