@@ -14,18 +14,18 @@ pub data Arg : Type 0 where
 pub data Quote : Type 0 where
   Always Auto Never : Quote
 
--- `let (arg, quote) = match arg`
+-- the first `match`: the argument, and how it is quoted
 abbrev pub arg-and-quote : Arg → Bool → List ℕ × Quote
 arg-and-quote (Regular arg) force-quotes = (arg, if force-quotes then Always else Auto)
 arg-and-quote (Raw arg) force-quotes = (arg, Never)
 
--- `let (quote, escape) = match quote`
+-- the second `match`: whether quotes stand around it, and whether it is escaped
 abbrev pub quote-and-escape : Quote → List ℕ → Bool × Bool
 quote-and-escape Always arg-bytes = (true, true)
 quote-and-escape Auto arg-bytes = (any (λ c. c == u16 " " || c == u16 "\t") arg-bytes || is-empty arg-bytes, true)
 quote-and-escape Never arg-bytes = (false, false)
 
--- `for x in arg.encode_wide()`
+-- the loop over the argument's units
 unfoldable pub for-units : Bool → List ℕ → ℕ → List ℕ → List ℕ × ℕ
 for-units escape cmd backslashes [] = (cmd, backslashes)
 for-units escape cmd backslashes (x ∷ xs) = do

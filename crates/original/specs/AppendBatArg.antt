@@ -24,7 +24,7 @@ unfoldable pub UNQUOTED : List ℕ
 unfolding units
 UNQUOTED = units "#$*+-./:?@\\_"
 
--- `for cp in arg.as_inner().inner.code_points()`
+-- the loop over the argument's code points
 unfoldable pub for-code-points : Bool → List ℕ → Bool
 unfolding UNQUOTED
 for-code-points quote [] = quote
@@ -36,7 +36,7 @@ for-code-points quote (cp ∷ cps) = do
       else quote
   for-code-points quote cps
 
--- `for x in arg.encode_wide()`
+-- the loop over the argument's units
 unfoldable pub for-bat-units : List ℕ → ℕ → List ℕ → List ℕ × ℕ
 for-bat-units cmd backslashes [] = (cmd, backslashes)
 for-bat-units cmd backslashes (x ∷ xs) = do

@@ -24,7 +24,7 @@ use Rattle.original.specs.Wtf8Laws.{last-bytes}
 
 -- ---- the decision on quotes
 
--- `ascii_needs_quotes || cp.is_control()`
+-- what sets `quote` for a character
 unfoldable needs : ℕ → Bool
 unfolding UNQUOTED
 needs cp = either (both (is-ascii cp) (flip (either (is-ascii-alphanumeric cp) (contains UNQUOTED cp)))) (is-control cp)

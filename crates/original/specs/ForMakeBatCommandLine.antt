@@ -41,7 +41,7 @@ eqb-comm a b = go (eqb b a) refl
     go true e = eq-eqb a b (sym (eqb-true b a e))
     go false e = ne-eqb a b (λ d. eqb-false b a e (sym d))
 
--- `DISALLOWED.contains(c)`
+-- the test on one byte
 abbrev disallowed : ℕ → Bool
 disallowed c = contains DISALLOWED c
 
@@ -124,7 +124,7 @@ loop force =
       next = λ a more. refl;
     }
 
--- `script.last() == Some(..)`
+-- the test on the script's last unit
 last-same : (script : List ℕ) → last script ==Some 92 ≡ endsInBackslash script
 unfolding endsInBackslash
 last-same [] = refl
@@ -135,7 +135,7 @@ unwrap-before : (x : ℕ) (o : Option (List ℕ)) (xs : List ℕ) → unwrap-or 
 unwrap-before x none xs = refl
 unwrap-before x (some ys) xs = refl
 
--- `script.strip_suffix(&[0]).unwrap_or(script)`
+-- the script without one final NUL
 script-same : (script : List ℕ) → unwrap-or (strip-suffix script 0) script ≡ scriptOf script
 unfolding scriptOf
 script-same [] = refl

@@ -101,7 +101,7 @@ unfolding taking
 taking-mode true = refl
 taking-mode false = refl
 
--- `if !cur.is_empty() || in_quotes`, behind the loop
+-- the test behind the loop
 abbrev finish : Locals → List (List ℕ)
 finish (ret-val, cur, in-quotes, code-units) = pick (either (flip (isEmpty cur)) in-quotes) (ret-val ++ cur ∷ []) ret-val
 

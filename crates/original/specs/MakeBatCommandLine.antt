@@ -17,7 +17,7 @@ DISALLOWED = u16 "\r" ∷ u16 "\n" ∷ []
 abbrev pub Append : Type 0
 Append = List ℕ → List ℕ → Bool → Result (List ℕ)
 
--- `match arg`, where the call of `append_bat_arg` is a parameter, so that a theorem can say with which arguments it is called
+-- the `match` on one argument, where the call of `append_bat_arg` is a parameter, so that a theorem can say with which arguments it is called
 unfoldable pub match-arg : Append → List ℕ → Arg → Bool → Result (List ℕ)
 unfolding as-encoded-bytes append-arg
 match-arg append-bat-arg cmd (Regular arg-os) force-quotes = do
@@ -26,7 +26,7 @@ match-arg append-bat-arg cmd (Regular arg-os) force-quotes = do
   append-bat-arg cmd arg-os force-quotes
 match-arg append-bat-arg cmd (Raw arg-os) force-quotes = append-arg cmd (Raw arg-os) force-quotes
 
--- `for arg in args`
+-- the loop over the arguments
 unfoldable pub for-bat-args : Append → List ℕ → List Arg → Bool → Result (List ℕ)
 unfolding match-arg
 for-bat-args append-bat-arg cmd [] force-quotes = Ok cmd
@@ -35,7 +35,7 @@ for-bat-args append-bat-arg cmd (arg ∷ args) force-quotes = do
   cmd ← match-arg append-bat-arg cmd arg force-quotes
   for-bat-args append-bat-arg cmd args force-quotes
 
--- `make_bat_command_line`, over what it calls
+-- `make_bat_command_line`, over what is called for a regular argument
 unfoldable pub make-bat-command-line-by : Append → List ℕ → List Arg → Bool → Result (List ℕ)
 unfolding units for-bat-args
 make-bat-command-line-by append-bat-arg script args force-quotes = do

@@ -6,7 +6,7 @@ use Rattle.original.specs.Shims.{u16, Result, Ok, push, extend, _>>=_}
 use Rattle.original.specs.Wtf8.{encode-wide}
 use Rattle.original.specs.AppendArg.{Arg, append-arg}
 
--- `for arg in args`
+-- the loop over the arguments
 unfoldable pub for-args : List ℕ → List Arg → Bool → Result (List ℕ)
 unfolding append-arg
 for-args cmd [] force-quotes = Ok cmd

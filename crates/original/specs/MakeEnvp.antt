@@ -41,7 +41,7 @@ btree-map compare entries = inserted compare [] entries
 
 -- ---- the function
 
--- `for (k, v) in env`
+-- the loop over the entries
 unfoldable pub for-env : List ℕ → List Entry → Result (List ℕ)
 for-env blk [] = Ok blk
 for-env blk (e ∷ env) = do

@@ -33,7 +33,7 @@ go-on (Break locals) more out = out locals
 
 -- ---- the name of the executable
 
--- `match w`
+-- the `match` on one unit of it
 abbrev pub match-w0 : List ℕ → Bool → ℕ → Turn (List ℕ × Bool)
 match-w0 cur in-quotes w =
     if w == QUOTE then (do
@@ -44,7 +44,7 @@ match-w0 cur in-quotes w =
       let cur = push cur w
       Next (cur, in-quotes))
 
--- `for w in &mut code_units`
+-- the loop over the name's units
 unfoldable pub for-w : List ℕ → Bool → List ℕ → List ℕ × Bool × List ℕ
 for-w cur in-quotes [] = (cur, in-quotes, [])
 for-w cur in-quotes (w ∷ code-units) =
@@ -56,7 +56,7 @@ for-w cur in-quotes (w ∷ code-units) =
 abbrev pub Locals : Type 0
 Locals = List (List ℕ) × List ℕ × Bool × List ℕ
 
--- `match code_units.peek()`
+-- the `match` on what `peek` gives
 abbrev pub match-peek : List (List ℕ) → List ℕ → Bool → List ℕ → Option ℕ → Turn Locals
 match-peek ret-val cur in-quotes code-units (some w) =
     if w == QUOTE then (do
@@ -68,7 +68,7 @@ match-peek ret-val cur in-quotes code-units (some w) =
       Next (ret-val, cur, in-quotes, code-units))
 match-peek ret-val cur in-quotes code-units none = Break (ret-val, cur, in-quotes, code-units)
 
--- `match w`
+-- the `match` on one unit of them
 unfoldable pub match-w : List (List ℕ) → List ℕ → Bool → ℕ → List ℕ → Turn Locals
 unfolding advance-while
 match-w ret-val cur in-quotes w code-units =
@@ -102,7 +102,7 @@ match-w ret-val cur in-quotes w code-units =
       let cur = push cur w
       Next (ret-val, cur, in-quotes, code-units))
 
--- `while let Some(w) = code_units.next()`, for at most so many turns. As many as there are units are enough: `while-same` in ForParseLpCmdLine
+-- the loop over the arguments' units, for at most so many turns. As many as there are units are enough: `while-same` in ForParseLpCmdLine
 unfoldable pub while-w : ℕ → List (List ℕ) → List ℕ → Bool → List ℕ → Locals
 unfolding match-w
 while-w zero ret-val cur in-quotes code-units = (ret-val, cur, in-quotes, code-units)
