@@ -4,6 +4,7 @@ ghost use Prim.Native.Nat.{_<_};
 ghost use lib.ListN.{length};
 ghost use Rattle.rules.specs.Quoting.{form};
 ghost use Rattle.rules.specs.Batch.{batchForm};
+ghost use Rattle.rules.specs.Record.{isRegular};
 ghost use Rattle.rules.specs.Building.{written};
 ghost use Rattle.units.specs.Table.{classTable};
 ghost use Rattle.quoting.specs.Appended.{Appended};
@@ -12,6 +13,21 @@ use units::stores;
 pub mod decisions;
 mod escapes;
 pub mod scans;
+
+// Whether an argument of this kind is written by the rules, and not as it is.
+pub fn is_regular(kind: u32) -> bool
+    ensures { λ r. ⌜ r ≡ isRegular kind ⌝ }
+{
+    kind == 0
+}
+
+// The units of a raw argument, at the front of what is lent.
+fn put_raw(out: &mut [u16], arg: &[u16]) -> usize
+    ensures { λ r. ⌜ Appended (now (arg .entry)) r (now (out .entry)) (now (out .exit)) ⌝ }
+{
+    stores::copy_run(out, 0, arg);
+    arg.len()
+}
 
 // One argument of an ordinary line, at the front of what is lent; the answer is how many units it has. In the Rust: `append_arg`.
 pub fn append_arg(
@@ -24,12 +40,11 @@ pub fn append_arg(
     requires { ⌜ now classes ≡ classTable ⌝ }
     ensures { λ r. ⌜ Appended (written (form «force_quotes») (record { kind = kind; content = now (arg .entry) })) r (now (out .entry)) (now (out .exit)) ⌝ }
 {
-    if kind != 0 {
-        stores::copy_run(out, 0, arg);
-        return arg.len();
+    if is_regular(kind) {
+        let quoted = decisions::needs_quotes(classes, arg, force_quotes);
+        return escapes::put_form(out, arg, quoted, false);
     }
-    let quoted = decisions::needs_quotes(classes, arg, force_quotes);
-    escapes::put_form(out, arg, quoted, false)
+    put_raw(out, arg)
 }
 
 // One argument of a batch line, at the front of what is lent; the answer is how many units it has. In the Rust: `append_bat_arg`.
@@ -43,10 +58,9 @@ pub fn append_bat_arg(
     requires { ⌜ (now classes ≡ classTable) × (length (now arg) < 4294967296) ⌝ }
     ensures { λ r. ⌜ Appended (written (batchForm «force_quotes») (record { kind = kind; content = now (arg .entry) })) r (now (out .entry)) (now (out .exit)) ⌝ }
 {
-    if kind != 0 {
-        stores::copy_run(out, 0, arg);
-        return arg.len();
+    if is_regular(kind) {
+        let quoted = decisions::needs_batch_quotes(classes, arg, force_quotes);
+        return escapes::put_form(out, arg, quoted, true);
     }
-    let quoted = decisions::needs_batch_quotes(classes, arg, force_quotes);
-    escapes::put_form(out, arg, quoted, true)
+    put_raw(out, arg)
 }
