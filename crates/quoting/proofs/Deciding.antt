@@ -1,17 +1,17 @@
 -- What decides on quotes: emptiness, the last unit, and a unit's class. Assumes nothing.
-use Prim.Native.Nat.{ℕ, suc, _+_, _-_, _<_, _≤_}
+use Prim.Native.Nat.{ℕ, zero, suc, _+_, _-_, _<_, _≤_}
 use native.Mathlib.Omega.{arith}
 use native.Mathlib.Numerals.{add-one}
-use borrow.Author.Tests.{eqb-true}
-use mathlib.Core.Path.{_≡_, refl}
+use mathlib.Core.Path.{_≡_, refl, sym, _∙_}
 use mathlib.Core.Bool.{Bool, true, false}
 use mathlib.Core.List.{List, [], _∷_}
 use lib.Dec.{eqb}
 use lib.ListN.{length, drop, getD, drop-of-length-le}
 use lib.Seq.{drop-cons}
-use Rattle.rules.specs.Choice.{pick, either, any, isEmpty}
-use Rattle.rules.specs.Unit.{isNul, isLineBreak, isBlank, isQuote, isBackslash, isPercent, isForcing, classOf}
+use Rattle.rules.specs.Choice.{either, any, isEmpty}
+use Rattle.rules.specs.Unit.{isBackslash, classOf}
 use Rattle.rules.specs.Batch.{endsInBackslash}
+use Rattle.laws.specs.Class.{class-most, class-tests}
 use Rattle.quoting.specs.Emitted.{isSettling, settlesBy}
 
 -- a list of length 0 is empty
@@ -52,39 +52,19 @@ any-end p xs i false l = rw drop-of-length-le
 
 -- ---- a unit's class
 
-module _ (batch : Bool) where
-  -- a unit's class tells whether it settles that quotes are needed
-  abbrev Tells : ℕ → Type 0
-  Tells x = settlesBy batch (classOf x) ≡ isSettling batch x
+-- of the classes, all but 0 and 5 are those of forcing units
+forcing-classes : (class : ℕ) → class ≤ 7 → settlesBy true class ≡ any (eqb class) (1 ∷ 2 ∷ 3 ∷ 4 ∷ 6 ∷ 7 ∷ [])
+forcing-classes zero h = refl
+forcing-classes (suc zero) h = refl
+forcing-classes (suc (suc zero)) h = refl
+forcing-classes (suc (suc (suc zero))) h = refl
+forcing-classes (suc (suc (suc (suc zero)))) h = refl
+forcing-classes (suc (suc (suc (suc (suc zero))))) h = refl
+forcing-classes (suc (suc (suc (suc (suc (suc zero)))))) h = refl
+forcing-classes (suc (suc (suc (suc (suc (suc (suc zero))))))) h = refl
+forcing-classes (suc (suc (suc (suc (suc (suc (suc (suc class)))))))) h = absurd (omega arith)
 
-  -- x is n, or else
-  known : (x n : ℕ) → Tells n → (eqb x n ≡ false → Tells x) → Tells x
-  known x n t f = go (eqb x n) refl
-    where
-      go : (b : Bool) → eqb x n ≡ b → Tells x
-      go true e = rw (eqb-true x n e) t
-      go false e = f e
-
-  unnamed : (x : ℕ) → isNul x ≡ false → isLineBreak x ≡ false → isBlank x ≡ false → isQuote x ≡ false → isBackslash x ≡ false → isPercent x ≡ false → Tells x
-  unfolding classOf
-  unnamed x nul break blank quote backslash percent =
-      let e : classOf x ≡ pick (isForcing x) 7 0 = simp (nul, break, blank, quote, backslash, percent) in
-      rw (e, blank) (go (isForcing x))
-    where
-      go : (g : Bool) → settlesBy batch (pick g 7 0) ≡ pick batch g false
-      go true = refl
-      go false = refl
-
-  -- any unit's class does
-  pub class-tells : (x : ℕ) → Tells x
-  unfolding classOf isForcing
-  class-tells x =
-      known x 0 refl λ nul.
-      known x 13 refl λ return.
-      known x 10 refl λ feed.
-      known x 32 refl λ space.
-      known x 9 refl λ tab.
-      known x 34 refl λ quote.
-      known x 92 refl λ backslash.
-      known x 37 refl λ percent.
-      unnamed x nul (rw return feed) (rw space tab) quote backslash percent
+-- a unit's class tells whether it settles that quotes are needed
+pub class-settles : (batch : Bool) (x : ℕ) → settlesBy batch (classOf x) ≡ isSettling batch x
+class-settles true x = forcing-classes (classOf x) (class-most x) ∙ sym (class-tests x .forcing)
+class-settles false x = sym (class-tests x .blank)

@@ -28,6 +28,7 @@ one-met k ys = joined k 1 ys
 
 -- ---- the rules' definitions
 
+-- one unit more in front of an ordinary argument
 step : (q : Bool) {x : ℕ} (xs : List ℕ) → Kind x → ((k : ℕ) → escaped q k xs ≡ slashes k ++ emitted false q k xs)
     → (k : ℕ) → escaped q k (x ∷ xs) ≡ slashes k ++ emitted false q k (x ∷ xs)
 unfolding escaped emitted markFor
@@ -35,6 +36,7 @@ step q xs slash ih k = ih (k + 1) ∙ one-met k (emitted false q (k + 1) xs)
 step q xs marked ih k = let e : 2 * k + 1 ≡ k + (k + 1) = omega arith in rw (ih 0, e, joined k (k + 1), append-assoc)
 step q xs (other p r) ih k = simp (p, r) (rw (ih 0))
 
+-- one unit more in front of a batch argument
 batch-step : (q : Bool) {x : ℕ} (xs : List ℕ) → Kind x → ((k : ℕ) → batchEscaped q k xs ≡ slashes k ++ emitted true q k xs)
     → (k : ℕ) → batchEscaped q k (x ∷ xs) ≡ slashes k ++ emitted true q k (x ∷ xs)
 unfolding batchEscaped emitted markFor

@@ -30,15 +30,19 @@ pub record Ran (batch q : Bool) (arg whole : List ℕ) (at : ℕ) (start : List 
   pub ended : i + n ≡ length arg → Left whole at start (slashes (pick q k 0)) (to + n) next
 
 module _ (batch q : Bool) (arg rest : List ℕ) (i n : ℕ) (h : i ≤ length arg) (w : rest ≡ drop i arg) (e : n ≡ before (isMark batch) rest) where
+  -- the run ends inside the argument
   inside-of : i + n ≤ length arg
   inside-of = omega (arith, e, leading-in (λ x. flip (isMark batch x)) rest, ap length w, length-drop i arg)
 
+  -- what lies behind the run
   behind : drop n rest ≡ drop (i + n) arg
   behind = rw (w, drop-drop)
 
+  -- the run, and what is emitted behind it
   cut : emitted batch q 0 (drop i arg) ≡ take n rest ++ emitted batch q (trailing isBackslash (take n rest)) (drop (i + n) arg)
   cut = rw (← behind, ← w, e) (run-first batch q 0 rest)
 
+  -- where the argument goes on behind the run, it goes on with a mark
   mark-there : i + n < length arg → isMark batch (getD arg (i + n) 0) ≡ true
   mark-there l =
       let m : isMark batch (getD rest (before (isMark batch) rest) 0) ≡ true =

@@ -8,7 +8,7 @@ ghost use Rattle.quoting.specs.Emitted.{isSettling, settlesBy};
 use crate::scans;
 use units::classes;
 
-// Whether a unit of this class settles that quotes are needed.
+// Whether a unit of this class settles that quotes are needed: a blank; in a batch argument any forcing unit.
 fn settles(class: u8, batch: bool) -> bool
     ensures { λ r. ⌜ r ≡ settlesBy batch class ⌝ }
 {
@@ -31,7 +31,7 @@ fn one_holds(a: bool, b: bool) -> bool
     if a { true } else { b }
 }
 
-// Whether a unit settles that quotes are needed.
+// Whether a unit settles that quotes are needed. It looks at every unit.
 fn has_settling(classes: &[u8; 256], arg: &[u16], batch: bool) -> bool
     requires { ⌜ now classes ≡ classTable ⌝ }
     ensures { λ r. ⌜ r ≡ any (isSettling batch) (now (arg .entry)) ⌝ }

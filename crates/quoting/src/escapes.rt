@@ -49,7 +49,7 @@ fn put_end(out: &mut [u16], at: usize, k: usize, quoted: bool) -> usize
     at
 }
 
-// The units of an argument, without the quotes round it.
+// The units of an argument, without the quotes round it. Its backslashes count only where a mark or the end follows, so a run is copied first and counted from behind.
 fn escape(out: &mut [u16], at: usize, arg: &[u16], quoted: bool, batch: bool) -> usize
     requires { ⌜ at + length (emitted batch quoted 0 (now arg)) < 2 ^ 64 ⌝ }
     ensures { λ r. ⌜ Placed (emitted batch quoted 0 (now (arg .entry))) at r (now (out .entry)) (now (out .exit)) ⌝ }
@@ -72,7 +72,7 @@ fn escape(out: &mut [u16], at: usize, arg: &[u16], quoted: bool, batch: bool) ->
     }
 }
 
-// The units of an argument's form, at the front of what is lent.
+// The units of an argument's form, at the front of what is lent. Lent an empty part, it measures.
 pub fn put_form(out: &mut [u16], arg: &[u16], quoted: bool, batch: bool) -> usize
     requires { ⌜ length (formed batch quoted (now arg)) < 2 ^ 64 ⌝ }
     ensures { λ r. ⌜ Appended (formed batch quoted (now (arg .entry))) r (now (out .entry)) (now (out .exit)) ⌝ }

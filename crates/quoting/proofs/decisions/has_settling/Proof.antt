@@ -5,7 +5,7 @@ use Prim.Native.Nat.{_-_, _≤_}
 use mathlib.Core.Path.{_∙_, _≡_, refl}
 use Rattle.rules.specs.Choice.{any, either}
 use Rattle.quoting.specs.Emitted.{isSettling}
-use Rattle.quoting.proofs.Deciding.{any-end, any-turn, class-tells}
+use Rattle.quoting.proofs.Deciding.{any-end, any-turn, class-settles}
 use Rattle.quoting.proofs.decisions.has_settling.Statement.{statement}
 use Rattle.quoting.proofs.decisions.has_settling.Tie as tie
 
@@ -43,7 +43,7 @@ loop-again : tie.Need-loop-again Inv-loop μ-loop
 loop-again c =
     let l = c .before .before .before .before .before .loop in
     let a = c .before .before .before .before .before .before .before .args in
-    let settled : c .before .settles .result ≡ isSettling (a .batch) (getD (a .arg .now) (l .i) 0) = c .before .settles .ensures ∙ rw (c .before .before .class-of .ensures) (class-tells (a .batch) _) in
+    let settled : c .before .settles .result ≡ isSettling (a .batch) (getD (a .arg .now) (l .i) 0) = c .before .settles .ensures ∙ rw (c .before .before .class-of .ensures) (class-settles (a .batch) _) in
     (search needs, rw (c .one-holds .ensures, settled) (any-turn (isSettling (a .batch)) (a .arg .now) (l .i) (l .found) (c .before .before .before .before .loop-test .taken) ∙ l .inv .1))
 
 returns : tie.Need-returns Inv-loop μ-loop
