@@ -5,9 +5,9 @@ ghost use Rattle.rules.specs.Block.{environmentBlock};
 use rules::Built;
 use rules::Refusal;
 
-pub mod judging;
-pub mod records;
-pub mod writing;
+mod judging;
+mod records;
+mod writing;
 
 // Writes the environment block (Rust: `make_envp`). A refusal is decided before anything is stored.
 pub fn make_envp(records: &[u32], text: &[u16], out: &mut [u16]) -> Built

@@ -29,7 +29,7 @@ fn put_entry(out: &mut [u16], at: usize, text: &[u16], entry: EntryRecord) -> us
     last + 1
 }
 
-// The entries from the front on. Many records can name one long text, so it stops once past the limit, where the sum could wrap later.
+// The entries from the front on. Many records can name the same long text, so counting stops once past the limit: a further sum could wrap.
 fn put_entries(out: &mut [u16], records: &[u32], text: &[u16]) -> usize
     ensures { λ r. ⌜ Counted blockLimit (entryUnits (entriesOf (now (text .entry)) (now (records .entry)))) (now (out .entry)) (now (out .exit)) r ⌝ }
 {
