@@ -8,7 +8,7 @@ use native.Mathlib.Omega.{arith}
 use lib.ListN.{length, take, drop}
 use lib.Dec.{eqb}
 use borrow.Author.Tests.{eqb-true, eq-eqb, ne-eqb}
-use Rattle.rules.specs.Choice.{pick, either, both, flip}
+use Rattle.rules.specs.Choice.{pick, flip}
 use Rattle.rules.specs.Unit.{isQuote, isBackslash, isBlank, quote, backslash}
 use Rattle.rules.specs.Quoting.{slashes}
 use Rattle.rules.specs.Reading.{later, between, outside, inside}
@@ -62,27 +62,27 @@ unfolding later
 takes-one true cur x xs b u e = rw (b, u, append-nil)
 takes-one false cur x xs b u e = rw (b, u, e, append-nil)
 
-takes : (q : Bool) (cur : List ℕ) (x : ℕ) (xs : List ℕ) → isPlain q x ≡ true → later (mode q) 0 cur (x ∷ xs) ≡ later (mode q) 0 (cur ++ x ∷ []) xs
+takes : (q : Bool) (cur : List ℕ) (x : ℕ) (xs : List ℕ) → isPlain true q x ≡ true → later (mode q) 0 cur (x ∷ xs) ≡ later (mode q) 0 (cur ++ x ∷ []) xs
 takes q cur x xs = go (isBackslash x) (isQuote x) (isEnd q x) refl refl refl
   where
-    go : (b c d : Bool) → isBackslash x ≡ b → isQuote x ≡ c → isEnd q x ≡ d → both (flip b) (flip (either c d)) ≡ true
+    go : (b c d : Bool) → isBackslash x ≡ b → isQuote x ≡ c → isEnd q x ≡ d → pick c false (pick b false (flip d)) ≡ true
         → later (mode q) 0 cur (x ∷ xs) ≡ later (mode q) 0 (cur ++ x ∷ []) xs
-    go true c d p r s t = absurd (never t)
-    go false true d p r s t = absurd (never t)
+    go b true d p r s t = absurd (never t)
+    go true false d p r s t = absurd (never t)
     go false false true p r s t = absurd (never t)
     go false false false p r s t = takes-one q cur x xs p r s
 
 -- a run of plain units is read as itself
 pub takes-run : (q : Bool) (cur xs : List ℕ)
-    → later (mode q) 0 cur xs ≡ later (mode q) 0 (cur ++ take (leading (isPlain q) xs) xs) (drop (leading (isPlain q) xs) xs)
+    → later (mode q) 0 cur xs ≡ later (mode q) 0 (cur ++ take (leading (isPlain true q) xs) xs) (drop (leading (isPlain true q) xs) xs)
 unfolding leading
 takes-run q cur [] = rw append-nil
-takes-run q cur (x ∷ xs) = go (isPlain q x) (takes-run q (cur ++ x ∷ []) xs) refl
+takes-run q cur (x ∷ xs) = go (isPlain true q x) (takes-run q (cur ++ x ∷ []) xs) refl
   where
     go : (b : Bool)
-        → later (mode q) 0 (cur ++ x ∷ []) xs ≡ later (mode q) 0 (cur ++ x ∷ [] ++ take (leading (isPlain q) xs) xs) (drop (leading (isPlain q) xs) xs)
-        → isPlain q x ≡ b → later (mode q) 0 cur (x ∷ xs)
-        ≡ later (mode q) 0 (cur ++ take (pick b (suc (leading (isPlain q) xs)) 0) (x ∷ xs)) (drop (pick b (suc (leading (isPlain q) xs)) 0) (x ∷ xs))
+        → later (mode q) 0 (cur ++ x ∷ []) xs ≡ later (mode q) 0 (cur ++ x ∷ [] ++ take (leading (isPlain true q) xs) xs) (drop (leading (isPlain true q) xs) xs)
+        → isPlain true q x ≡ b → later (mode q) 0 cur (x ∷ xs)
+        ≡ later (mode q) 0 (cur ++ take (pick b (suc (leading (isPlain true q) xs)) 0) (x ∷ xs)) (drop (pick b (suc (leading (isPlain true q) xs)) 0) (x ∷ xs))
     go true h e = takes q cur x xs e ∙ h ∙ rw append-assoc
     go false h e = rw append-nil
 

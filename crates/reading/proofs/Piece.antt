@@ -21,13 +21,13 @@ use Rattle.reading.proofs.Later as L
 -- ---- a run of plain units
 
 -- a unit that is no quote mark, no backslash and no end is plain
-pub plain-is : (q : Bool) (x : ℕ) → (x ≡ 34 → ⊥) → (x ≡ 92 → ⊥) → isEnd q x ≡ false → isPlain q x ≡ true
-plain-is q x u b e = rw (ne-eqb x 92 b, ne-eqb x 34 u, e)
+pub plain-is : (q : Bool) (x : ℕ) → (x ≡ 34 → ⊥) → (x ≡ 92 → ⊥) → isEnd q x ≡ false → isPlain true q x ≡ true
+plain-is q x u b e = rw (ne-eqb x 34 u, ne-eqb x 92 b, e)
 
-pub plain : (here before : List ℕ) (n : ℕ) (q : Bool) {after : List ℕ} {run : ℕ} → run ≡ leading (isPlain q) here → 0 < run → after ≡ sets before n (take run here)
+pub plain : (here before : List ℕ) (n : ℕ) (q : Bool) {after : List ℕ} {run : ℕ} → run ≡ leading (isPlain true q) here → 0 < run → after ≡ sets before n (take run here)
     → PieceRead here before after n q run run q
 plain here before n q {run = run} e s w =
-    let l : leading (isPlain q) here ≤ length here = leading-in (isPlain q) here in
+    let l : leading (isPlain true q) here ≤ length here = leading-in (isPlain true q) here in
     record {
       given = take run here;
       reads = λ cur. L.takes-run q cur here ∙ rw (← e);

@@ -43,8 +43,8 @@ pub fn parse_lp_cmd_line(
         return Parsed::Refused(Refusal::Length);
     }
     let line = &units[..n];
-    let need = lay_line(line, exe_name, &mut text[..0], &mut spans[..0]);
     let places = spans.len() / 2;
+    let need = lay_line(line, exe_name, &mut text[..0], &mut spans[..0]);
     if places < need.count {
         return Parsed::Refused(Refusal::Spans);
     }

@@ -8,7 +8,7 @@ ghost use Rattle.reading.specs.Run.{startsWith};
 ghost use Rattle.reading.specs.Part.{FirstRead, LaterRead};
 use super::pieces::read_piece;
 use super::runs::is_end;
-use super::runs::kept_run;
+use super::runs::plain_run;
 use units::stores::copy_run;
 
 // How many units of the line an argument takes, with the blank that ends it, and how many it has.
@@ -17,7 +17,7 @@ pub struct Took {
     pub units: usize,
 }
 
-// Reads argument 0 and writes it to the front of the output, as far as there is room. It has no backslash rule.
+// Reads argument 0 and writes it to the front of the output, as far as there is room. Backslashes mean nothing there.
 pub fn read_first(line: &[u16], out: &mut [u16]) -> Took
     ensures { λ r. ⌜ FirstRead (now (line .entry)) (now (out .entry)) (now (out .exit)) (r .used) (r .units) ⌝ }
 {
@@ -25,7 +25,7 @@ pub fn read_first(line: &[u16], out: &mut [u16]) -> Took
     let mut n = 0;
     let mut quoted = false;
     while i < line.len() {
-        let run = kept_run(&line[i..], quoted);
+        let run = plain_run(&line[i..], quoted, false);
         let end = i + run;
         copy_run(out, n, &line[i..end]);
         n += run;

@@ -52,34 +52,39 @@ pub fn read_slashes(rest: &[u16], i: usize, out: &mut [u16], n: usize, quoted: b
     }
 }
 
-// A quote mark that is handled as a quote. Outside quotes it opens quoted mode. Inside, two give one literal mark; before another unit it closes;
-// as the last unit of the line it leaves quoted mode set, so that even an empty argument is added.
+// A quote mark that is handled as a quote. Outside quotes it opens quoted mode. Inside, as the last unit of the line it leaves quoted mode set,
+// so that even an empty argument is added; two give one literal mark; before another unit it closes.
 pub fn read_mark(rest: &[u16], i: usize, out: &mut [u16], n: usize, quoted: bool) -> Piece
     requires { ⌜ (i < length (now rest)) × (getD (now rest) i 0 ≡ 34) ⌝ }
     ensures { λ r. ⌜ PieceRead (drop i (now (rest .entry))) (now (out .entry)) (now (out .exit)) n quoted (r .used) (r .units) (r .quoted) ⌝ }
 {
+    if !quoted {
+        return Piece {
+            used: 1,
+            units: 0,
+            quoted: true,
+        };
+    }
     let next = i + 1;
-    if quoted {
-        if next < rest.len() {
-            if rest[next] == 34 {
-                put(out, n, 34);
-                return Piece {
-                    used: 2,
-                    units: 1,
-                    quoted: true,
-                };
-            }
-            return Piece {
-                used: 1,
-                units: 0,
-                quoted: false,
-            };
-        }
+    if rest.len() <= next {
+        return Piece {
+            used: 1,
+            units: 0,
+            quoted: true,
+        };
+    }
+    if rest[next] == 34 {
+        put(out, n, 34);
+        return Piece {
+            used: 2,
+            units: 1,
+            quoted: true,
+        };
     }
     Piece {
         used: 1,
         units: 0,
-        quoted: true,
+        quoted: false,
     }
 }
 
@@ -94,7 +99,7 @@ pub fn read_piece(rest: &[u16], i: usize, out: &mut [u16], n: usize, quoted: boo
     if rest[i] == 92 {
         return read_slashes(rest, i, out, n, quoted);
     }
-    let run = plain_run(&rest[i..], quoted);
+    let run = plain_run(&rest[i..], quoted, true);
     let end = i + run;
     copy_run(out, n, &rest[i..end]);
     Piece {

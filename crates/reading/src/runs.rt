@@ -2,7 +2,7 @@
 ghost use mathlib.Core.Path.{_≡_};
 ghost use Rattle.rules.specs.Unit.{isQuote};
 ghost use Rattle.laws.specs.Scan.{leading};
-ghost use Rattle.reading.specs.Run.{isEnd, isKept, isPlain, startsWith};
+ghost use Rattle.reading.specs.Run.{isEnd, isPlain, startsWith};
 use units::scans::is_blank;
 
 // Whether a unit ends an argument: a blank outside quotes.
@@ -15,48 +15,26 @@ pub fn is_end(unit: u16, quoted: bool) -> bool
     is_blank(unit)
 }
 
-// Whether argument 0 keeps a unit: no quote mark and no end.
-pub fn is_kept(unit: u16, quoted: bool) -> bool
-    ensures { λ r. ⌜ r ≡ isKept quoted unit ⌝ }
+// Whether a unit is taken as it is: no quote mark, no end and, where backslashes mean something, no backslash.
+pub fn is_plain(unit: u16, quoted: bool, slashes: bool) -> bool
+    ensures { λ r. ⌜ r ≡ isPlain slashes quoted unit ⌝ }
 {
     if unit == 34 {
         return false;
     }
+    if unit == 92 {
+        return !slashes;
+    }
     !is_end(unit, quoted)
 }
 
-// Whether a later argument takes a unit as it is: no backslash either.
-pub fn is_plain(unit: u16, quoted: bool) -> bool
-    ensures { λ r. ⌜ r ≡ isPlain quoted unit ⌝ }
-{
-    if unit == 92 {
-        return false;
-    }
-    is_kept(unit, quoted)
-}
-
-// How many units that argument 0 keeps the rest of a line starts with.
-pub fn kept_run(rest: &[u16], quoted: bool) -> usize
-    ensures { λ r. ⌜ r ≡ leading (isKept quoted) (now (rest .entry)) ⌝ }
+// How many units that are taken as they are the rest of a line starts with.
+pub fn plain_run(rest: &[u16], quoted: bool, slashes: bool) -> usize
+    ensures { λ r. ⌜ r ≡ leading (isPlain slashes quoted) (now (rest .entry)) ⌝ }
 {
     let mut i = 0;
     while i < rest.len() {
-        if is_kept(rest[i], quoted) {
-            i += 1;
-        } else {
-            return i;
-        }
-    }
-    i
-}
-
-// How many units that a later argument takes as they are the rest of a line starts with.
-pub fn plain_run(rest: &[u16], quoted: bool) -> usize
-    ensures { λ r. ⌜ r ≡ leading (isPlain quoted) (now (rest .entry)) ⌝ }
-{
-    let mut i = 0;
-    while i < rest.len() {
-        if is_plain(rest[i], quoted) {
+        if is_plain(rest[i], quoted, slashes) {
             i += 1;
         } else {
             return i;

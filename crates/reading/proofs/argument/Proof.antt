@@ -1,3 +1,4 @@
+-- `reading::argument` meets its contract. Assumes nothing.
 use borrow.Author.Needs.{needs}
 use mathlib.Core.Path.{_∙_, _≡_, ap}
 use Prim.Native.Nat.{_*_, _+_, _-_, ℕ}
@@ -7,95 +8,73 @@ use Rattle.reading.proofs.Outcome.{no-place, past, there}
 use Rattle.reading.proofs.argument.Statement.{statement}
 use Rattle.reading.proofs.argument.Tie as tie
 
--- src/lib.rt:65:9
 slice-aggregate-result : tie.Need-slice-aggregate-result
 slice-aggregate-result c = search needs
 
--- src/lib.rt:65:9
 returns : tie.Need-returns
 returns c = no-place _ _ _ (c .before .if1 .taken)
 
--- src/lib.rt:67:23
 mul-start : tie.Need-mul-start
 mul-start c = search needs
 
--- src/lib.rt:67:17
 mul-start-2 : tie.Need-mul-start-2
 mul-start-2 c = search needs
 
--- src/lib.rt:67:17
 shared-slice-read-start : tie.Need-shared-slice-read-start
 shared-slice-read-start c = search needs
 
--- src/lib.rt:67:17
 cast-start : tie.Need-cast-start
 cast-start c = omega (arith, c .shared-slice-known .given (2 * c .before .before .args .index))
 
--- src/lib.rt:68:23
 mul-count : tie.Need-mul-count
 mul-count c = search needs
 
--- src/lib.rt:68:23
 add-count : tie.Need-add-count
 add-count c = search needs
 
--- src/lib.rt:68:17
 mul-count-2 : tie.Need-mul-count-2
 mul-count-2 c = search needs
 
--- src/lib.rt:68:17
 shared-slice-read-count : tie.Need-shared-slice-read-count
 shared-slice-read-count c = search needs
 
--- src/lib.rt:68:17
 cast-count : tie.Need-cast-count
 cast-count c = omega (arith, c .shared-slice-known2 .given (2 * c .before .before .before .args .index + 1))
 
--- src/lib.rt:70:9
 slice-aggregate-result-2 : tie.Need-slice-aggregate-result-2
 slice-aggregate-result-2 c = search needs
 
--- src/lib.rt:70:9
 returns-2 : tie.Need-returns-2
 returns-2 c =
     let a = c .before .before .before .before .before .args in
     past (a .text .now) (a .spans .now) (a .index) (c .before .before .before .before .if1 .left) (omega (arith, c .before .if2 .taken))
 
--- src/lib.rt:72:8
 sub-if3 : tie.Need-sub-if3
 sub-if3 c = search needs
 
--- src/lib.rt:73:9
 slice-aggregate-result-3 : tie.Need-slice-aggregate-result-3
 slice-aggregate-result-3 c = search needs
 
--- src/lib.rt:73:9
 returns-3 : tie.Need-returns-3
 returns-3 c =
     let a = c .before .before .before .before .before .before .args in
     past (a .text .now) (a .spans .now) (a .index) (c .before .before .before .before .before .if1 .left) (omega (arith, c .before .if3 .taken))
 
--- src/lib.rt:75:15
 add-end : tie.Need-add-end
 add-end c = search needs
 
--- src/lib.rt:76:5
 mul-result : tie.Need-mul-result
 mul-result c = search needs
 
--- src/lib.rt:76:5
 sub-result : tie.Need-sub-result
 sub-result c = search needs
 
--- src/lib.rt:76:5
 part-result-start : tie.Need-part-result-start
 part-result-start c = search needs
 
--- src/lib.rt:76:5
 part-result-end : tie.Need-part-result-end
 part-result-end c = search needs
 
--- src/lib.rt:61:1
 returns-4 : tie.Need-returns-4
 returns-4 c =
     let a = c .before .before .before .before .before .before .args in

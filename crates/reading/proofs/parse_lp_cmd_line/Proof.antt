@@ -1,3 +1,4 @@
+-- `reading::parse_lp_cmd_line` meets its contract. Assumes nothing.
 use borrow.Author.Needs.{needs}
 use mathlib.Core.Path.{_∙_, _≡_, ap, refl, sym}
 use mathlib.Core.List.{[]}
@@ -38,54 +39,42 @@ measured c =
     let a = c .before .before .before .before .before .before .before .before .before .before .before .args in
     all-laid (a .exe-name .now) (a .units .now) (c .before .before .before .before .before .before .find-nul .result) (c .before .before .before .before .before .before .find-nul .ensures) (c .lay-line .ensures)
 
--- src/lib.rt:40:9
 find-nul-requires : tie.Need-find-nul-requires
 find-nul-requires c κs = search needs
 
--- src/lib.rt:41:21
 units-read-requires : tie.Need-units-read-requires
 units-read-requires c κs = search needs
 
--- src/lib.rt:42:9
 returns : tie.Need-returns
 unfolding readLimit
 returns c = refuses (too-long _ _ _ _ (omega (arith, counted (c .before)))) refl refl refl
 
--- src/lib.rt:44:9
 slice-aggregate-line : tie.Need-slice-aggregate-line
 slice-aggregate-line c =
     let a = c .before .before .before .before .before .before .before .before .args in
     sym (line-length (a .exe-name .now) (a .units .now) (c .before .before .before .find-nul .result) (c .before .before .before .find-nul .ensures))
 
--- src/lib.rt:45:41
 slice-relend-prefix-lay-line : tie.Need-slice-relend-prefix-lay-line
 slice-relend-prefix-lay-line c = search needs
 
--- src/lib.rt:45:41
 slice-aggregate-lay-line : tie.Need-slice-aggregate-lay-line
 slice-aggregate-lay-line c = search needs
 
--- src/lib.rt:45:57
 slice-relend-prefix-lay-line-2 : tie.Need-slice-relend-prefix-lay-line-2
 slice-relend-prefix-lay-line-2 c = search needs
 
--- src/lib.rt:45:57
 slice-aggregate-lay-line-2 : tie.Need-slice-aggregate-lay-line-2
 slice-aggregate-lay-line-2 c = search needs
 
--- src/lib.rt:45:9
 lay-line-requires : tie.Need-lay-line-requires
 lay-line-requires c κs = short-line (c .before .before .before .before) (c .before .before .before .if1 .left)
 
--- src/lib.rt:48:9
 same-length : tie.Need-same-length
 same-length c = search needs
 
--- src/lib.rt:48:9
 same-length-2 : tie.Need-same-length-2
 same-length-2 c = search needs
 
--- src/lib.rt:48:9
 returns-2 : tie.Need-returns-2
 returns-2 c =
     let m = c .before .before .before .before .before .before in
@@ -97,15 +86,12 @@ returns-2 c =
     let short = c .before .before .before .before .before .before .before .before .before .before .if1 .left in
     refuses (no-places (a .exe-name .now) (a .units .now) _ _ (fits u short) (omega (arith, measured m .counts, c .if2 .taken))) refl text spans
 
--- src/lib.rt:51:9
 same-length-3 : tie.Need-same-length-3
 same-length-3 c = search needs
 
--- src/lib.rt:51:9
 same-length-4 : tie.Need-same-length-4
 same-length-4 c = search needs
 
--- src/lib.rt:51:9
 returns-3 : tie.Need-returns-3
 returns-3 c =
     let m = c .before .before .before .before .before .before .before .before in
@@ -122,22 +108,18 @@ returns-3 c =
     text
     spans
 
--- src/lib.rt:53:9
 lay-line-requires-2 : tie.Need-lay-line-requires-2
 lay-line-requires-2 c κs =
     let u = c .before .before .before .before .before .before .before .before .before .before .before .before .before .before .before in
     let short = c .before .before .before .before .before .before .before .before .before .before .before .before .before .before .if1 .left in
     short-line u short
 
--- src/lib.rt:32:1
 same-length-5 : tie.Need-same-length-5
 same-length-5 c = search needs
 
--- src/lib.rt:32:1
 same-length-6 : tie.Need-same-length-6
 same-length-6 c = search needs
 
--- src/lib.rt:32:1
 returns-4 : tie.Need-returns-4
 returns-4 c =
     let m = c .before .before .before .before .before .before .before .before .before .before .before .before .before .before .before in

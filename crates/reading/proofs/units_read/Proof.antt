@@ -1,12 +1,11 @@
+-- `reading::units_read` meets its contract. Assumes nothing.
 use borrow.Author.Tests.{eq-eqb, ne-eqb}
 use Rattle.reading.proofs.units_read.Statement.{statement}
 use Rattle.reading.proofs.units_read.Tie as tie
 
--- src/lib.rt:25:9
 returns : tie.Need-returns
 returns c = rw (eq-eqb _ 0 (c .if1 .taken))
 
--- src/lib.rt:21:1
 returns-2 : tie.Need-returns-2
 returns-2 c = rw (ne-eqb _ 0 (c .if1 .left))
 

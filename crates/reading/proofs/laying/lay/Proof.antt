@@ -1,3 +1,4 @@
+-- `reading::laying::lay` meets its contract. Assumes nothing.
 use borrow.Author.Needs.{needs}
 use mathlib.Core.Path.{_∙_, ap}
 use Prim.Native.Nat.{_-_}
@@ -17,92 +18,71 @@ Inv-loop line text₀ spans₀ n₀ count₀ behind i₀ text spans n count i = 
 abbrev μ-loop : tie.MeasureT-loop
 μ-loop line text₀ spans₀ n₀ count₀ behind i₀ text spans n count i = length line - i
 
--- src/laying.rt:55:9
 read-first-requires : tie.Need-read-first-requires Inv-loop μ-loop
 read-first-requires c κs = search needs
 
--- src/laying.rt:57:5
 put-span-requires : tie.Need-put-span-requires Inv-loop μ-loop
 put-span-requires c κs = search needs
 
--- src/laying.rt:60:9
 skip-blanks-requires : tie.Need-skip-blanks-requires Inv-loop μ-loop
 skip-blanks-requires c κs = search needs
 
--- src/laying.rt:61:5
 loop-holds : tie.Need-loop-holds Inv-loop μ-loop
 loop-holds c =
     let m = c .before .before .before .before .before .before .before .read-first in
     Y.starts _ _ _ _ _ _ (c .skip-blanks .ensures .0) (c .skip-blanks .ensures .1) (m .ensures .few)
 
--- src/laying.rt:62:13
 smaller-requires : tie.Need-smaller-requires Inv-loop μ-loop
 smaller-requires c κs = search needs
 
--- src/laying.rt:63:31
 mul-read-later : tie.Need-mul-read-later Inv-loop μ-loop
 mul-read-later c = search needs
 
--- src/laying.rt:63:31
 sub-read-later : tie.Need-sub-read-later Inv-loop μ-loop
 sub-read-later c = search needs
 
--- src/laying.rt:63:31
 part-read-later-start : tie.Need-part-read-later-start Inv-loop μ-loop
 part-read-later-start c = search needs
 
--- src/laying.rt:63:31
 part-read-later-end : tie.Need-part-read-later-end Inv-loop μ-loop
 part-read-later-end c = search needs
 
--- src/laying.rt:63:43
 mul-read-later-2 : tie.Need-mul-read-later-2 Inv-loop μ-loop
 mul-read-later-2 c = search needs
 
--- src/laying.rt:63:43
 sub-read-later-2 : tie.Need-sub-read-later-2 Inv-loop μ-loop
 sub-read-later-2 c = search needs
 
--- src/laying.rt:63:43
 part-read-later-start-2 : tie.Need-part-read-later-start-2 Inv-loop μ-loop
 part-read-later-start-2 c = search needs
 
--- src/laying.rt:63:43
 part-read-later-end-2 : tie.Need-part-read-later-end-2 Inv-loop μ-loop
 part-read-later-end-2 c = search needs
 
--- src/laying.rt:63:13
 read-later-requires : tie.Need-read-later-requires Inv-loop μ-loop
 read-later-requires c κs =
     let line = c .before .before .before .before .before .before .before .before .before .before .before .before .before .before .before .before .before .args .line .now in
     let l = c .before .before .before .before .loop in
     (rw (part-is (l .i) line, length-drop) (omega arith), ap (startsWith isBlank) (part-is (l .i) line) ∙ l .inv .clear)
 
--- src/laying.rt:65:9
 put-span-requires-2 : tie.Need-put-span-requires-2 Inv-loop μ-loop
 put-span-requires-2 c κs = search needs
 
--- src/laying.rt:66:9
 add-count : tie.Need-add-count Inv-loop μ-loop
 add-count c = search needs
 
--- src/laying.rt:67:9
 add-n : tie.Need-add-n Inv-loop μ-loop
 add-n c = search needs
 
--- src/laying.rt:68:22
 add-behind : tie.Need-add-behind Inv-loop μ-loop
 add-behind c = search needs
 
--- src/laying.rt:69:9
 skip-blanks-requires-2 : tie.Need-skip-blanks-requires-2 Inv-loop μ-loop
 skip-blanks-requires-2 c κs = search needs
 
--- src/laying.rt:61:5
 loop-less : tie.Need-loop-less Inv-loop μ-loop
 loop-less c = search needs
 
--- src/laying.rt:61:5
 loop-again : tie.Need-loop-again Inv-loop μ-loop
 loop-again c =
     let l = c .before .before .before .before .before .before .before .before .before .before .before .before .before .loop in
@@ -112,17 +92,14 @@ loop-again c =
     Y.turn (l .inv) from _ (took .ensures) (part-is (l .i) _) (part-is from (l .text)) (back-is from (l .text) _) (smaller .ensures)
     (c .before .before .before .before .put-span2 .ensures) (c .skip-blanks2 .ensures .0) (c .skip-blanks2 .ensures .1)
 
--- src/laying.rt:51:1
 same-length : tie.Need-same-length Inv-loop μ-loop
 same-length c =
     let m = c .before .before .before .before .before .before .before .before .before .read-first in
     Y.text-length (c .before .loop .inv) ∙ m .kept .1 .0
 
--- src/laying.rt:51:1
 same-length-2 : tie.Need-same-length-2 Inv-loop μ-loop
 same-length-2 c = Y.spans-length (c .before .loop .inv) ∙ c .before .before .before .before .before .put-span .kept .0
 
--- src/laying.rt:51:1
 returns : tie.Need-returns Inv-loop μ-loop
 returns c =
     let m = c .before .before .before .before .before .before .before .before .before .read-first in

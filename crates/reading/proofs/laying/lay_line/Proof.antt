@@ -1,47 +1,39 @@
+-- `reading::laying::lay_line` meets its contract. Assumes nothing.
 use borrow.Author.Needs.{needs}
 use native.Mathlib.Omega.{arith}
 use Rattle.reading.proofs.Outcome.{line-laid, name-laid}
 use Rattle.reading.proofs.laying.lay_line.Statement.{statement}
 use Rattle.reading.proofs.laying.lay_line.Tie as tie
 
--- src/laying.rt:80:9
 copy-run-requires : tie.Need-copy-run-requires
 copy-run-requires c κs = search needs
 
--- src/laying.rt:81:9
 put-span-requires : tie.Need-put-span-requires
 put-span-requires c κs =
     let start = c .before .before .before .before .before .before .before .before .before .before in
     let short = start .pre .1 (c .before .before .before .before .before .if1 .taken) in
     omega arith
 
--- src/laying.rt:82:9
 same-length : tie.Need-same-length
 same-length c = search needs
 
--- src/laying.rt:82:9
 same-length-2 : tie.Need-same-length-2
 same-length-2 c = search needs
 
--- src/laying.rt:82:9
 returns : tie.Need-returns
 returns c =
     let empty = c .before .before .before .before .before .before .before .before .if1 .taken in
     name-laid _ _ empty (c .before .before .before .before .before .before .copy-run .ensures) (c .before .before .put-span .ensures)
 
--- src/laying.rt:87:5
 lay-requires : tie.Need-lay-requires
 lay-requires c κs = search needs
 
--- src/laying.rt:75:1
 same-length-3 : tie.Need-same-length-3
 same-length-3 c = search needs
 
--- src/laying.rt:75:1
 same-length-4 : tie.Need-same-length-4
 same-length-4 c = search needs
 
--- src/laying.rt:75:1
 returns-2 : tie.Need-returns-2
 returns-2 c =
     let full = c .before .before .before .before .before .before .before .if1 .left in

@@ -1,3 +1,4 @@
+-- `reading::laying::skip_blanks` meets its contract. Assumes nothing.
 use borrow.Author.Needs.{needs}
 use mathlib.Core.Path.{_≡_, ap}
 use Prim.Native.Nat.{_+_, _≤_, ℕ}
@@ -13,31 +14,24 @@ use Rattle.reading.proofs.laying.skip_blanks.Tie as tie
 run-is : (c : tie.After-blanks) → (c .blanks .result ≡ leading isBlank (drop (c .before .before .before .args .i) (c .before .before .before .args .line .now))) × (c .before .before .before .args .i + c .blanks .result ≤ length (c .before .before .before .args .line .now))
 run-is c = run-at isBlank (c .before .before .before .args .line .now) (c .before .before .before .args .i) (c .before .before .before .pre) (c .blanks .ensures)
 
--- src/laying.rt:37:16
 mul-blanks : tie.Need-mul-blanks
 mul-blanks c = search needs
 
--- src/laying.rt:37:16
 sub-blanks : tie.Need-sub-blanks
 sub-blanks c = search needs
 
--- src/laying.rt:37:16
 part-blanks-start : tie.Need-part-blanks-start
 part-blanks-start c = search needs
 
--- src/laying.rt:37:16
 part-blanks-end : tie.Need-part-blanks-end
 part-blanks-end c = search needs
 
--- src/laying.rt:37:9
 blanks-requires : tie.Need-blanks-requires
 blanks-requires c κs = search needs
 
--- src/laying.rt:37:5
 add-result : tie.Need-add-result
 add-result c = omega (arith, run-is c)
 
--- src/laying.rt:33:1
 returns : tie.Need-returns
 returns c = (ap (λ (k : ℕ). c .before .before .before .args .i + k) (run-is c .0), run-is c .1)
 

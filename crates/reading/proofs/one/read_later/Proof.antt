@@ -1,3 +1,4 @@
+-- `reading::one::read_later` meets its contract. Assumes nothing.
 use borrow.Author.Needs.{needs}
 use mathlib.Core.Path.{_∙_, sym}
 use Prim.Native.Nat.{_-_}
@@ -14,59 +15,45 @@ Inv-loop rest out₀ i₀ n₀ quoted₀ out i n quoted = Reading rest out₀ ou
 abbrev μ-loop : tie.MeasureT-loop
 μ-loop rest out₀ i₀ n₀ quoted₀ out i n quoted = length rest - i
 
--- src/one.rt:52:5
 loop-holds : tie.Need-loop-holds Inv-loop μ-loop
 loop-holds c = T.starts _ (c .before .before .pre .0) (c .before .before .pre .1)
 
--- src/one.rt:53:19
 mul-is-end : tie.Need-mul-is-end Inv-loop μ-loop
 mul-is-end c = search needs
 
--- src/one.rt:53:19
 shared-slice-read-is-end : tie.Need-shared-slice-read-is-end Inv-loop μ-loop
 shared-slice-read-is-end c = search needs
 
--- src/one.rt:53:12
 is-end-requires : tie.Need-is-end-requires Inv-loop μ-loop
 is-end-requires c κs = search needs
 
--- src/one.rt:55:23
 add-t12 : tie.Need-add-t12 Inv-loop μ-loop
 add-t12 c = search needs
 
--- src/one.rt:54:13
 same-length : tie.Need-same-length Inv-loop μ-loop
 same-length c = T.same-length (c .before .before .before .before .loop .inv)
 
--- src/one.rt:54:13
 returns : tie.Need-returns Inv-loop μ-loop
 returns c = T.stops (c .before .before .before .before .loop .inv) (c .before .before .before .loop-test .taken) (sym (c .before .is-end .ensures) ∙ c .if1 .taken)
 
--- src/one.rt:59:13
 read-piece-requires : tie.Need-read-piece-requires Inv-loop μ-loop
 read-piece-requires c κs = (c .before .before .before .before .loop-test .taken, c .before .before .before .before .before .loop .inv .few, sym (c .before .before .is-end .ensures) ∙ c .before .if1 .left)
 
--- src/one.rt:60:9
 add-i : tie.Need-add-i Inv-loop μ-loop
 add-i c = omega (arith, c .before .before .before .read-piece .ensures .within, length-drop (c .before .before .before .before .before .before .before .before .before .loop .i) (c .before .before .before .before .before .before .before .before .before .before .before .before .args .rest .now))
 
--- src/one.rt:61:9
 add-n : tie.Need-add-n Inv-loop μ-loop
 add-n c = omega (arith, c .before .before .before .before .read-piece .ensures .within, c .before .before .before .before .read-piece .ensures .few, length-drop (c .before .before .before .before .before .before .before .before .before .before .loop .i) (c .before .before .before .before .before .before .before .before .before .before .before .before .before .args .rest .now))
 
--- src/one.rt:52:5
 loop-less : tie.Need-loop-less Inv-loop μ-loop
 loop-less c = omega (arith, c .before .before .before .before .read-piece .ensures .within, c .before .before .before .before .read-piece .ensures .some, length-drop (c .before .before .before .before .before .before .before .before .before .before .loop .i) (c .before .before .before .before .before .before .before .before .before .before .before .before .before .args .rest .now))
 
--- src/one.rt:52:5
 loop-again : tie.Need-loop-again Inv-loop μ-loop
 loop-again c = T.turn (c .before .before .before .before .before .before .before .before .before .before .loop .inv) (c .before .before .before .before .read-piece .ensures)
 
--- src/one.rt:45:1
 same-length-2 : tie.Need-same-length-2 Inv-loop μ-loop
 same-length-2 c = T.same-length (c .before .loop .inv)
 
--- src/one.rt:45:1
 returns-2 : tie.Need-returns-2 Inv-loop μ-loop
 returns-2 c = T.finishes _ (c .before .before .before .before .pre .0) (c .before .loop .inv) (c .loop-test .left)
 

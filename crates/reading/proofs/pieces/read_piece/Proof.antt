@@ -1,3 +1,4 @@
+-- `reading::pieces::read_piece` meets its contract. Assumes nothing.
 use borrow.Author.Needs.{needs}
 use mathlib.Core.Path.{_∙_, _≡_, ap}
 use Prim.Native.Nat.{_+_, _<_, _≤_}
@@ -8,108 +9,86 @@ use Rattle.laws.specs.Scan.{leading}
 use Rattle.reading.specs.Run.{isPlain}
 use Rattle.reading.proofs.Run.{part-run, run-at, run-some}
 use Rattle.reading.proofs.Piece.{plain, plain-is}
+use mathlib.Core.Bool.{true}
 use Rattle.reading.proofs.pieces.read_piece.Statement.{statement}
 use Rattle.reading.proofs.pieces.read_piece.Tie as tie
 
 -- the run of plain units at i, and that it lies in the rest
-run-is : (c : tie.After-plain-run) → (c .plain-run .result ≡ leading (isPlain (c .before .before .before .before .before .before .before .before .args .quoted)) (drop (c .before .before .before .before .before .before .before .before .args .i) (c .before .before .before .before .before .before .before .before .args .rest .now))) × (c .before .before .before .before .before .before .before .before .args .i + c .plain-run .result ≤ length (c .before .before .before .before .before .before .before .before .args .rest .now))
-run-is c = run-at (isPlain (c .before .before .before .before .before .before .before .before .args .quoted)) (c .before .before .before .before .before .before .before .before .args .rest .now) (c .before .before .before .before .before .before .before .before .args .i) (omega (arith, c .before .before .before .before .before .before .before .before .pre)) (c .plain-run .ensures)
+run-is : (c : tie.After-plain-run) → (c .plain-run .result ≡ leading (isPlain true (c .before .before .before .before .before .before .before .before .args .quoted)) (drop (c .before .before .before .before .before .before .before .before .args .i) (c .before .before .before .before .before .before .before .before .args .rest .now))) × (c .before .before .before .before .before .before .before .before .args .i + c .plain-run .result ≤ length (c .before .before .before .before .before .before .before .before .args .rest .now))
+run-is c = run-at (isPlain true (c .before .before .before .before .before .before .before .before .args .quoted)) (c .before .before .before .before .before .before .before .before .args .rest .now) (c .before .before .before .before .before .before .before .before .args .i) (omega (arith, c .before .before .before .before .before .before .before .before .pre)) (c .plain-run .ensures)
 
 -- it has one at least
 some : (c : tie.After-plain-run) → 0 < c .plain-run .result
 some c =
     let a = c .before .before .before .before .before .before .before .before .args in
-    run-some (isPlain (a .quoted)) (a .rest .now) (a .i) (c .before .before .before .before .before .before .before .before .pre .0) (plain-is (a .quoted) _ (c .before .before .before .before .if1 .left) (c .before .before .if2 .left) (c .before .before .before .before .before .before .before .before .pre .2)) (run-is c .0)
+    run-some (isPlain true (a .quoted)) (a .rest .now) (a .i) (c .before .before .before .before .before .before .before .before .pre .0) (plain-is (a .quoted) _ (c .before .before .before .before .if1 .left) (c .before .before .if2 .left) (c .before .before .before .before .before .before .before .before .pre .2)) (run-is c .0)
 
--- src/pieces.rt:91:8
 mul-if1 : tie.Need-mul-if1
 mul-if1 c = search needs
 
--- src/pieces.rt:91:8
 shared-slice-read-if1 : tie.Need-shared-slice-read-if1
 shared-slice-read-if1 c = search needs
 
--- src/pieces.rt:92:9
 read-mark-requires : tie.Need-read-mark-requires
 read-mark-requires c κs = search needs
 
--- src/pieces.rt:92:9
 same-length : tie.Need-same-length
 same-length c = search needs
 
--- src/pieces.rt:92:9
 returns : tie.Need-returns
 returns c = search needs
 
--- src/pieces.rt:94:8
 mul-if2 : tie.Need-mul-if2
 mul-if2 c = search needs
 
--- src/pieces.rt:94:8
 shared-slice-read-if2 : tie.Need-shared-slice-read-if2
 shared-slice-read-if2 c = search needs
 
--- src/pieces.rt:95:9
 read-slashes-requires : tie.Need-read-slashes-requires
 read-slashes-requires c κs = search needs
 
--- src/pieces.rt:95:9
 same-length-2 : tie.Need-same-length-2
 same-length-2 c = search needs
 
--- src/pieces.rt:95:9
 returns-2 : tie.Need-returns-2
 returns-2 c = search needs
 
--- src/pieces.rt:97:25
 mul-plain-run : tie.Need-mul-plain-run
 mul-plain-run c = search needs
 
--- src/pieces.rt:97:25
 sub-plain-run : tie.Need-sub-plain-run
 sub-plain-run c = search needs
 
--- src/pieces.rt:97:25
 part-plain-run-start : tie.Need-part-plain-run-start
 part-plain-run-start c = search needs
 
--- src/pieces.rt:97:25
 part-plain-run-end : tie.Need-part-plain-run-end
 part-plain-run-end c = search needs
 
--- src/pieces.rt:97:9
 plain-run-requires : tie.Need-plain-run-requires
 plain-run-requires c κs = search needs
 
--- src/pieces.rt:98:15
 add-end : tie.Need-add-end
 add-end c = omega (arith, run-is c)
 
--- src/pieces.rt:99:22
 mul-copy-run : tie.Need-mul-copy-run
 mul-copy-run c = search needs
 
--- src/pieces.rt:99:22
 sub-copy-run : tie.Need-sub-copy-run
 sub-copy-run c = search needs
 
--- src/pieces.rt:99:22
 part-copy-run-start : tie.Need-part-copy-run-start
 part-copy-run-start c = search needs
 
--- src/pieces.rt:99:22
 part-copy-run-end : tie.Need-part-copy-run-end
 part-copy-run-end c = omega (arith, run-is (c .before))
 
--- src/pieces.rt:99:5
 copy-run-requires : tie.Need-copy-run-requires
 copy-run-requires c κs = search needs
 
--- src/pieces.rt:87:1
 same-length-3 : tie.Need-same-length-3
 same-length-3 c = search needs
 
--- src/pieces.rt:87:1
 returns-3 : tie.Need-returns-3
 returns-3 c =
     let b = c .before .before .before .before .before in

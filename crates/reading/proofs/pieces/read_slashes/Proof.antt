@@ -1,3 +1,4 @@
+-- `reading::pieces::read_slashes` meets its contract. Assumes nothing.
 use borrow.Author.Needs.{needs}
 use mathlib.Core.Path.{_∙_, _≡_, ap, sym}
 use Prim.Native.Nat.{_+_, _<_, _≤_}
@@ -29,99 +30,76 @@ quote-is c =
     let end = c .before .before .before .before .before .before .args .i + c .before .before .backslashes .result in
     rw drop-drop (ap (startsWith isQuote) (sym (part-is end rest)) ∙ sym (c .starts-with-quote .ensures))
 
--- src/pieces.rt:28:25
 mul-backslashes : tie.Need-mul-backslashes
 mul-backslashes c = search needs
 
--- src/pieces.rt:28:25
 sub-backslashes : tie.Need-sub-backslashes
 sub-backslashes c = search needs
 
--- src/pieces.rt:28:25
 part-backslashes-start : tie.Need-part-backslashes-start
 part-backslashes-start c = search needs
 
--- src/pieces.rt:28:25
 part-backslashes-end : tie.Need-part-backslashes-end
 part-backslashes-end c = search needs
 
--- src/pieces.rt:28:9
 backslashes-requires : tie.Need-backslashes-requires
 backslashes-requires c κs = search needs
 
--- src/pieces.rt:29:15
 add-end : tie.Need-add-end
 add-end c = omega (arith, run-is c)
 
--- src/pieces.rt:30:26
 mul-starts-with-quote : tie.Need-mul-starts-with-quote
 mul-starts-with-quote c = omega (arith, run-is c)
 
--- src/pieces.rt:30:26
 sub-starts-with-quote : tie.Need-sub-starts-with-quote
 sub-starts-with-quote c = omega (arith, run-is c)
 
--- src/pieces.rt:30:26
 part-starts-with-quote-start : tie.Need-part-starts-with-quote-start
 part-starts-with-quote-start c = omega (arith, run-is c)
 
--- src/pieces.rt:30:26
 part-starts-with-quote-end : tie.Need-part-starts-with-quote-end
 part-starts-with-quote-end c = search needs
 
--- src/pieces.rt:30:8
 starts-with-quote-requires : tie.Need-starts-with-quote-requires
 starts-with-quote-requires c κs = search needs
 
--- src/pieces.rt:32:9
 repeat-requires : tie.Need-repeat-requires
 repeat-requires c κs = search needs
 
--- src/pieces.rt:34:22
 add-put : tie.Need-add-put
 add-put c = omega (arith, run-is (c .before .before .before .before .before .before .before .before .before), c .before .before .before .before .before .before .before .before .before .before .before .before .before .pre)
 
--- src/pieces.rt:34:13
 put-requires : tie.Need-put-requires
 put-requires c κs = search needs
 
--- src/pieces.rt:36:23
 add-t26 : tie.Need-add-t26
 add-t26 c = omega (arith, run-is (c .before .before .before .before .before .before .before .before .before .before .before .before), c .before .before .before .before .before .before .before .before .before .before .before .before .before .before .before .before .pre)
 
--- src/pieces.rt:37:24
 add-t27 : tie.Need-add-t27
 add-t27 c = omega (arith, run-is (c .before .before .before .before .before .before .before .before .before .before .before .before), c .before .before .before .before .before .before .before .before .before .before .before .before .before .before .before .before .pre)
 
--- src/pieces.rt:35:13
 same-length : tie.Need-same-length
 same-length c = search needs
 
--- src/pieces.rt:35:13
 returns : tie.Need-returns
 returns c =
     let b = c .before .before .before .before .before .before .before .before .before .before .before .before in
     escaped _ _ _ _ _ (run-is b .0) (some b) (quote-is (c .before .before .before .before .before .before .before .before .before .before) ∙ c .before .before .before .before .before .before .before .before .before .if1 .taken) (c .before .before .before .before .if2 .taken) (c .before .before .before .before .before .before .before .repeat .ensures) (c .before .before .put .ensures)
 
--- src/pieces.rt:41:9
 same-length-2 : tie.Need-same-length-2
 same-length-2 c = search needs
 
--- src/pieces.rt:41:9
 returns-2 : tie.Need-returns-2
 returns-2 c =
     let b = c .before .before .before .before .before .before .before .before in
     halved _ _ _ _ _ (run-is b .0) (some b) (quote-is (c .before .before .before .before .before .before) ∙ c .before .before .before .before .before .if1 .taken) (c .if2 .left) (c .before .before .before .repeat .ensures)
 
--- src/pieces.rt:47:5
 repeat-requires-2 : tie.Need-repeat-requires-2
 repeat-requires-2 c κs = search needs
 
--- src/pieces.rt:24:1
 same-length-3 : tie.Need-same-length-3
 same-length-3 c = search needs
 
--- src/pieces.rt:24:1
 returns-3 : tie.Need-returns-3
 returns-3 c =
     let b = c .before .before .before .before .before .before .before in

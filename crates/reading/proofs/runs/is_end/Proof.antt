@@ -1,16 +1,14 @@
+-- `reading::runs::is_end` meets its contract. Assumes nothing.
 use borrow.Author.Needs.{needs}
 use Rattle.reading.proofs.runs.is_end.Statement.{statement}
 use Rattle.reading.proofs.runs.is_end.Tie as tie
 
--- src/runs.rt:13:9
 returns : tie.Need-returns
 returns c = search needs
 
--- src/runs.rt:15:5
 is-blank-requires : tie.Need-is-blank-requires
 is-blank-requires c κs = search needs
 
--- src/runs.rt:9:1
 returns-2 : tie.Need-returns-2
 returns-2 c = rw (c .before .if1 .left) (c .is-blank .ensures)
 

@@ -1,3 +1,4 @@
+-- `reading::runs::plain_run` meets its contract. Assumes nothing.
 use borrow.Author.Needs.{needs}
 use mathlib.Core.Path.{_∙_, sym}
 use Prim.Native.Nat.{_-_}
@@ -8,48 +9,41 @@ use Rattle.reading.proofs.runs.plain_run.Statement.{statement}
 use Rattle.reading.proofs.runs.plain_run.Tie as tie
 
 abbrev Inv-loop : tie.InvT-loop
-Inv-loop rest quoted i₀ i = Passed (isPlain quoted) rest i
+Inv-loop rest quoted slashes i₀ i = Passed (isPlain slashes quoted) rest i
 
 abbrev μ-loop : tie.MeasureT-loop
-μ-loop rest quoted i₀ i = length rest - i
+μ-loop rest quoted slashes i₀ i = length rest - i
 
--- src/runs.rt:58:5
 loop-holds : tie.Need-loop-holds Inv-loop μ-loop
 loop-holds c = none-passed _ _
 
--- src/runs.rt:59:21
 mul-is-plain : tie.Need-mul-is-plain Inv-loop μ-loop
 mul-is-plain c = search needs
 
--- src/runs.rt:59:21
 shared-slice-read-is-plain : tie.Need-shared-slice-read-is-plain Inv-loop μ-loop
 shared-slice-read-is-plain c = search needs
 
--- src/runs.rt:59:12
 is-plain-requires : tie.Need-is-plain-requires Inv-loop μ-loop
 is-plain-requires c κs = search needs
 
--- src/runs.rt:60:13
 add-i : tie.Need-add-i Inv-loop μ-loop
 add-i c = search needs
 
--- src/runs.rt:58:5
 loop-less : tie.Need-loop-less Inv-loop μ-loop
 loop-less c = search needs
 
--- src/runs.rt:58:5
 loop-again : tie.Need-loop-again Inv-loop μ-loop
 loop-again c =
     let t = c .before .before .before in
-    one-more (isPlain (t .before .before .before .args .quoted)) _ _ (t .before .loop .inv) (t .loop-test .taken) (sym (c .before .is-plain .ensures) ∙ c .if1 .taken)
+    let a = t .before .before .before .args in
+    one-more (isPlain (a .slashes) (a .quoted)) _ _ (t .before .loop .inv) (t .loop-test .taken) (sym (c .before .is-plain .ensures) ∙ c .if1 .taken)
 
--- src/runs.rt:62:13
 returns : tie.Need-returns Inv-loop μ-loop
 returns c =
     let t = c .before .before .before in
-    stopped (isPlain (t .before .before .before .args .quoted)) _ _ (t .before .loop .inv) (t .loop-test .taken) (sym (c .before .is-plain .ensures) ∙ c .if1 .left)
+    let a = t .before .before .before .args in
+    stopped (isPlain (a .slashes) (a .quoted)) _ _ (t .before .loop .inv) (t .loop-test .taken) (sym (c .before .is-plain .ensures) ∙ c .if1 .left)
 
--- src/runs.rt:54:1
 returns-2 : tie.Need-returns-2 Inv-loop μ-loop
 returns-2 c = all-passed _ _ _ (c .before .loop .inv) (c .loop-test .left)
 

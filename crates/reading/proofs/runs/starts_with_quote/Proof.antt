@@ -1,18 +1,16 @@
+-- `reading::runs::starts_with_quote` meets its contract. Assumes nothing.
 use borrow.Author.Needs.{needs}
 use Rattle.rules.specs.Unit.{isQuote}
 use Rattle.reading.proofs.Run.{starts-at, starts-none}
 use Rattle.reading.proofs.runs.starts_with_quote.Statement.{statement}
 use Rattle.reading.proofs.runs.starts_with_quote.Tie as tie
 
--- src/runs.rt:73:16
 shared-slice-read-result : tie.Need-shared-slice-read-result
 shared-slice-read-result c = search needs
 
--- src/runs.rt:73:9
 returns : tie.Need-returns
 returns c = starts-at isQuote _ (c .before .if1 .taken)
 
--- src/runs.rt:69:1
 returns-2 : tie.Need-returns-2
 returns-2 c = starts-none isQuote _ (c .if1 .left)
 
