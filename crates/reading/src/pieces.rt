@@ -52,8 +52,8 @@ pub fn read_slashes(rest: &[u16], i: usize, out: &mut [u16], n: usize, quoted: b
     }
 }
 
-// A quote mark that is handled as a quote. Outside quotes it opens quoted mode. Inside, as the last unit of the line it leaves quoted mode set,
-// so that even an empty argument is added; two give one literal mark; before another unit it closes.
+// A quote mark that is handled as a quote. Outside quotes it opens quoted mode. Inside, as the last unit of the line it leaves quoted mode set;
+// two give one literal mark; before another unit it closes.
 pub fn read_mark(rest: &[u16], i: usize, out: &mut [u16], n: usize, quoted: bool) -> Piece
     requires { ⌜ (i < length (now rest)) × (getD (now rest) i 0 ≡ 34) ⌝ }
     ensures { λ r. ⌜ PieceRead (drop i (now (rest .entry))) (now (out .entry)) (now (out .exit)) n quoted (r .used) (r .units) (r .quoted) ⌝ }
@@ -62,7 +62,7 @@ pub fn read_mark(rest: &[u16], i: usize, out: &mut [u16], n: usize, quoted: bool
         return Piece {
             used: 1,
             units: 0,
-            quoted: true,
+            quoted: true, // it opens
         };
     }
     let next = i + 1;
@@ -70,7 +70,7 @@ pub fn read_mark(rest: &[u16], i: usize, out: &mut [u16], n: usize, quoted: bool
         return Piece {
             used: 1,
             units: 0,
-            quoted: true,
+            quoted: true, // still set, so that even an empty argument is added
         };
     }
     if rest[next] == 34 {
