@@ -15,7 +15,7 @@ use Rattle.laws.specs.Scan.{leading}
 use Rattle.laws.specs.Store.{sets-append, sets-out, sets-rest}
 use Rattle.reading.specs.Run.{startsWith}
 use Rattle.reading.specs.Part.{LaterRead, FirstRead, Laid}
-use Rattle.reading.proofs.Run.{run-stops}
+use Rattle.reading.proofs.Run.{stops-at}
 use Rattle.reading.proofs.Later as L
 
 -- the later arguments that are still to be read behind i units of a line
@@ -37,10 +37,11 @@ sets-in d v n f e = go (ltb n (length d)) refl
 pub sets-both : (d u v : List ℕ) (n m : ℕ) → m ≡ length u → sets (sets d n u) (n + m) v ≡ sets d n (u ++ v)
 sets-both d u v n m e = rw (e, sets-append)
 
--- behind the blanks from i on stands no blank, and no argument is lost
+-- behind the blanks from i on stands no blank
 pub clear-at : (line : List ℕ) (i j : ℕ) → j ≡ i + leading isBlank (drop i line) → startsWith isBlank (drop j line) ≡ false
-clear-at line i j e = rw (e, ← drop-drop) (run-stops isBlank (drop i line))
+clear-at line i j e = rw e (stops-at isBlank line i refl)
 
+-- no argument is lost with them
 pub skips-to : (line : List ℕ) (i j : ℕ) → j ≡ i + leading isBlank (drop i line) → left line i ≡ left line j
 skips-to line i j e = L.skips (drop i line) ∙ rw (drop-drop, ← e)
 
@@ -69,10 +70,11 @@ starts line text spans n i b e h l = record {
 }
 
 module _ {line text₀ spans₀ : List ℕ} {n₀ count₀ i₀ : ℕ} {text spans : List ℕ} {n count i : ℕ} (r : Laying line text₀ spans₀ n₀ count₀ i₀ text spans n count i) where
-  -- text and table keep their lengths
+  -- the text keeps its length
   pub text-length : length text ≡ length text₀
   text-length = sym (length-sets text n (joined (left line i))) ∙ ap length (r .stores) ∙ length-sets text₀ n₀ (joined (left line i₀))
 
+  -- the table keeps its length
   pub spans-length : length spans ≡ length spans₀
   spans-length = sym (length-sets spans (2 * count) (spansFrom n (left line i))) ∙ ap length (r .tabulates) ∙ length-sets spans₀ (2 * count₀) (spansFrom n₀ (left line i₀))
 

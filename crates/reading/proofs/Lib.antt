@@ -5,3 +5,4 @@ pub mod Turn
 pub mod First
 pub mod Left
 pub mod Outcome
+pub mod Span

@@ -4,7 +4,7 @@ use mathlib.Core.Bool.{Bool, true, false}
 use mathlib.Core.List.{List, [], _∷_, _++_, append-nil}
 use Prim.Native.Nat.{ℕ, zero, suc, _+_, _*_, _/_, _≤_, _<_}
 use native.Mathlib.Omega.{arith}
-use lib.ListN.{length, take, getD}
+use lib.ListN.{length, take}
 use lib.Seq.{sets, length-take-le}
 use lib.Dec.{eqb, eqb·suc-zero}
 use borrow.Author.Tests.{lt-ltb, le-ltb}
@@ -12,9 +12,8 @@ use Rattle.rules.specs.declared.Parsed.{Parsed}
 use Rattle.rules.specs.declared.Parsed.the-variants as Parsed
 use Rattle.rules.specs.Choice.{pick, flip, isEmpty}
 use Rattle.rules.specs.Unit.{isNul}
-use Rattle.rules.specs.Record.{part}
 use Rattle.rules.specs.Outcome.{Outcome, done, refused}
-use Rattle.rules.specs.Reading.{lineOf, arguments, argumentsRead, unitsRead, readLimit, joined, spansOf, spansFrom, reading, argumentPart}
+use Rattle.rules.specs.Reading.{lineOf, arguments, argumentsRead, unitsRead, readLimit, joined, spansOf, spansFrom, reading}
 use Rattle.rules.specs.Answer.{refusal, parsedSaid, Read}
 use Rattle.laws.specs.Scan.{leading, before, leading-in}
 use Rattle.laws.specs.Store.{sets-out, sets-front}
@@ -82,10 +81,11 @@ pub spans-length : (start : ℕ) (args : List (List ℕ)) → length (spansFrom 
 spans-length start [] = omega arith
 spans-length start (a ∷ args) = let h : length (spansFrom (start + length a) args) ≡ 2 * length args = spans-length (start + length a) args in omega arith
 
--- where nothing was lent, nothing was stored
+-- where no text was lent, none was stored
 pub text-kept : {args : List (List ℕ)} {text′ spans spans′ : List ℕ} {count units : ℕ} (d : List ℕ) → Laid args [] text′ spans spans′ count units → text′ ++ d ≡ d
 text-kept {args} d r = rw (r .stores, sets-out [] 0 (joined args) (omega arith))
 
+-- where no table was lent, nothing was stored in it
 pub spans-kept : {args : List (List ℕ)} {text text′ spans′ : List ℕ} {count units : ℕ} (d : List ℕ) → Laid args text text′ [] spans′ count units → spans′ ++ d ≡ d
 spans-kept {args} d r = rw (r .tabulates, sets-out [] 0 (spansOf args) (omega arith))
 
@@ -131,23 +131,3 @@ gives {args = args} {text = text} {spans = spans} e r t s h g =
       leaves = r .stores ∙ rw t (sets-front text (joined args) h);
       tabulates = r .tabulates ∙ rw s (sets-front spans (spansOf args) (omega arith));
     })
-
--- ---- one argument
-
-module _ (text spans : List ℕ) (index : ℕ) where
-  -- an index not in the table
-  pub no-place : length spans / 2 ≤ index → [] ≡ argumentPart text spans index
-  unfolding argumentPart
-  no-place h = rw (le-ltb index (length spans / 2) h)
-
-  module _ (place : index < length spans / 2) where
-    -- a span reaching past the text
-    pub past : length text < getD spans (2 * index) 0 + getD spans (2 * index + 1) 0 → [] ≡ argumentPart text spans index
-    unfolding argumentPart
-    past h = rw (lt-ltb index (length spans / 2) place, lt-ltb (length text) (getD spans (2 * index) 0 + getD spans (2 * index + 1) 0) h)
-
-    -- the part of the text itself
-    pub there : getD spans (2 * index) 0 + getD spans (2 * index + 1) 0 ≤ length text
-        → part text (getD spans (2 * index) 0) (getD spans (2 * index + 1) 0) ≡ argumentPart text spans index
-    unfolding argumentPart
-    there h = rw (lt-ltb index (length spans / 2) place, le-ltb (length text) (getD spans (2 * index) 0 + getD spans (2 * index + 1) 0) h)

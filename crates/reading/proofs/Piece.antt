@@ -24,6 +24,7 @@ use Rattle.reading.proofs.Later as L
 pub plain-is : (q : Bool) (x : ℕ) → (x ≡ 34 → ⊥) → (x ≡ 92 → ⊥) → isEnd q x ≡ false → isPlain true q x ≡ true
 plain-is q x u b e = rw (ne-eqb x 34 u, ne-eqb x 92 b, e)
 
+-- a run of them
 pub plain : (here before : List ℕ) (n : ℕ) (q : Bool) {after : List ℕ} {run : ℕ} → run ≡ leading (isPlain true q) here → 0 < run → after ≡ sets before n (take run here)
     → PieceRead here before after n q run run q
 plain here before n q {run = run} e s w =

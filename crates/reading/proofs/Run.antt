@@ -6,7 +6,7 @@ use Prim.Native.Nat.{ℕ, suc, _+_, _-_, _≤_, _<_}
 use native.Mathlib.Numerals.{add-one}
 use native.Mathlib.Omega.{arith}
 use lib.ListN.{length, getD, take, drop, length-drop}
-use lib.Seq.{drop-cons}
+use lib.Seq.{drop-cons, drop-drop}
 use lib.Dec.{eqb}
 use borrow.Author.Tests.{eqb-true}
 use Rattle.rules.specs.Choice.{pick, flip}
@@ -31,9 +31,12 @@ at rest i h = rw (add-one, drop-cons rest i 0)
 pub at-is : (rest : List ℕ) (i x : ℕ) → i < length rest → getD rest i 0 ≡ x → drop i rest ≡ x ∷ drop (i + 1) rest
 at-is rest i x h e = rw (← e) (at rest i h)
 
--- the run at the front of the part from i on, as a scan finds it there, is that of the rest, and lies in the list
-pub run-at : (p : ℕ → Bool) (rest : List ℕ) (i : ℕ) {k : ℕ} → i ≤ length rest → k ≡ leading p (take (length rest - i) (drop i rest))
-    → (k ≡ leading p (drop i rest)) × (i + k ≤ length rest)
+-- k units at i are a run of those that pass the test, and they lie in the list
+abbrev pub RunAt : (ℕ → Bool) → List ℕ → ℕ → ℕ → Type 0
+RunAt p rest i k = (k ≡ leading p (drop i rest)) × (i + k ≤ length rest)
+
+-- so many as a scan finds at the front of the part from i on
+pub run-at : (p : ℕ → Bool) (rest : List ℕ) (i : ℕ) {k : ℕ} → i ≤ length rest → k ≡ leading p (take (length rest - i) (drop i rest)) → RunAt p rest i k
 run-at p rest i {k} h e =
     let s : k ≡ leading p (drop i rest) = e ∙ ap (leading p) (part-is i rest) in
     let l : leading p (drop i rest) ≤ length (drop i rest) = leading-in p (drop i rest) in
@@ -58,7 +61,11 @@ run-stops p (x ∷ xs) = go (p x) (run-stops p xs) refl
     go true h e = h
     go false h e = e
 
--- what starts with a quote mark, or with any unit of its own
+-- the same behind a run at i
+pub stops-at : (p : ℕ → Bool) (rest : List ℕ) (i : ℕ) {k : ℕ} → k ≡ leading p (drop i rest) → startsWith p (drop (i + k) rest) ≡ false
+stops-at p rest i e = rw (e, ← drop-drop) (run-stops p (drop i rest))
+
+-- a rest that starts with a unit
 pub starts-with : (x : ℕ) (xs : List ℕ) → startsWith (λ y. eqb y x) xs ≡ true → xs ≡ x ∷ drop 1 xs
 unfolding startsWith
 starts-with x [] e = absurd (never e)

@@ -4,7 +4,7 @@ use mathlib.Core.Path.{_∙_, _≡_, ap}
 use Prim.Native.Nat.{_*_, _+_, _-_, ℕ}
 use native.Mathlib.Omega.{arith}
 use lib.ListN.{drop, getD, take}
-use Rattle.reading.proofs.Outcome.{no-place, past, there}
+use Rattle.reading.proofs.Span.{no-place, past, there}
 use Rattle.reading.proofs.argument.Statement.{statement}
 use Rattle.reading.proofs.argument.Tie as tie
 

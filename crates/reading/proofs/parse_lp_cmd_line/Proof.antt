@@ -1,8 +1,8 @@
 -- `reading::parse_lp_cmd_line` meets its contract. Assumes nothing.
 use borrow.Author.Needs.{needs}
 use mathlib.Core.Path.{_∙_, _≡_, ap, refl, sym}
-use mathlib.Core.List.{[]}
-use Prim.Native.Nat.{_/_, _<_, _≤_}
+use mathlib.Core.List.{List, []}
+use Prim.Native.Nat.{ℕ, _/_, _<_, _≤_}
 use native.Mathlib.Omega.{arith}
 use lib.ListN.{length, take}
 use Rattle.rules.specs.Reading.{argumentsRead, joined, readLimit, unitsRead}
@@ -11,33 +11,47 @@ use Rattle.reading.proofs.Outcome.{all-laid, all-read, gives, line-leng
 use Rattle.reading.proofs.parse_lp_cmd_line.Statement.{statement}
 use Rattle.reading.proofs.parse_lp_cmd_line.Tie as tie
 
+-- the executable name, the lent units, and how many of them the line has
+abbrev name : tie.After-units-read → List ℕ
+name c = c .before .before .before .before .before .before .args .exe-name .now
+
+abbrev lent : tie.After-units-read → List ℕ
+lent c = c .before .before .before .before .before .before .args .units .now
+
+abbrev size : tie.After-units-read → ℕ
+size c = c .before .find-nul .result
+
 -- how many units the limit counts
-counted : (c : tie.After-units-read) → length (unitsRead (c .before .before .before .before .before .before .args .exe-name .now) (c .before .before .before .before .before .before .args .units .now)) ≡ c .units-read .result
-counted c =
-    let a = c .before .before .before .before .before .before .args in
-    units-are (a .exe-name .now) (a .units .now) (c .before .find-nul .result) (c .before .find-nul .ensures) ∙ sym (c .units-read .ensures)
+counted : (c : tie.After-units-read) → length (unitsRead (name c) (lent c)) ≡ c .units-read .result
+counted c = units-are (name c) (lent c) (size c) (c .before .find-nul .ensures) ∙ sym (c .units-read .ensures)
 
 -- where they are not too many, refusal 2 is not given
-fits : (c : tie.After-units-read) → c .units-read .result ≤ 32767 → length (unitsRead (c .before .before .before .before .before .before .args .exe-name .now) (c .before .before .before .before .before .before .args .units .now)) ≤ readLimit
+fits : (c : tie.After-units-read) → c .units-read .result ≤ 32767 → length (unitsRead (name c) (lent c)) ≤ readLimit
 unfolding readLimit
 fits c h = omega (arith, counted c)
 
--- where they are not too many, the line is short, and so is the executable name where the line is empty
+-- the line has as many units as the scan finds
+sized : (c : tie.After-units-read) → length (take (size c) (lent c)) ≡ size c
+sized c = line-length (name c) (lent c) (size c) (c .before .find-nul .ensures)
+
+-- where they are not too many, it is short, and so is the executable name where the line is empty
 short-line : (c : tie.After-units-read) → c .units-read .result ≤ 32767
-    → (length (take (c .before .find-nul .result) (c .before .before .before .before .before .before .args .units .now)) < 2147483648)
-    × (length (take (c .before .find-nul .result) (c .before .before .before .before .before .before .args .units .now)) ≡ 0 → length (c .before .before .before .before .before .before .args .exe-name .now) < 2147483648)
+    → (length (take (size c) (lent c)) < 2147483648) × (length (take (size c) (lent c)) ≡ 0 → length (name c) < 2147483648)
 short-line c h =
-    let a = c .before .before .before .before .before .before .args in
-    let n = c .before .find-nul .result in
-    let l = line-length (a .exe-name .now) (a .units .now) n (c .before .find-nul .ensures) in
-    let s = short n (length (a .exe-name .now)) (rw (c .units-read .ensures) at h) in
+    let l = sized c in
+    let s = short (size c) (length (name c)) (rw (c .units-read .ensures) at h) in
     (omega (arith, s .0), λ z. let t = s .1 (sym l ∙ z) in omega arith)
 
--- the measuring pass measures the arguments, and leaves text and table as they were
-measured : (c : tie.After-lay-line) → Laid (argumentsRead (c .before .before .before .before .before .before .before .before .before .before .before .args .exe-name .now) (c .before .before .before .before .before .before .before .before .before .before .before .args .units .now)) [] (c .lay-line .last .1 .1 .0) [] (c .lay-line .last .1 .1 .1 .0) (c .lay-line .result .count) (c .lay-line .result .units)
+-- the place behind the refusal 2 of a measuring pass
+abbrev counts-of : tie.After-lay-line → tie.After-units-read
+counts-of c = c .before .before .before .before .before
+
+-- it measures the arguments, and leaves text and table as they were
+measured : (c : tie.After-lay-line)
+    → Laid (argumentsRead (name (counts-of c)) (lent (counts-of c))) [] (c .lay-line .last .1 .1 .0) [] (c .lay-line .last .1 .1 .1 .0) (c .lay-line .result .count) (c .lay-line .result .units)
 measured c =
-    let a = c .before .before .before .before .before .before .before .before .before .before .before .args in
-    all-laid (a .exe-name .now) (a .units .now) (c .before .before .before .before .before .before .find-nul .result) (c .before .before .before .before .before .before .find-nul .ensures) (c .lay-line .ensures)
+    let u = counts-of c in
+    all-laid (name u) (lent u) (size u) (u .before .find-nul .ensures) (c .lay-line .ensures)
 
 find-nul-requires : tie.Need-find-nul-requires
 find-nul-requires c κs = search needs
@@ -50,9 +64,7 @@ unfolding readLimit
 returns c = refuses (too-long _ _ _ _ (omega (arith, counted (c .before)))) refl refl refl
 
 slice-aggregate-line : tie.Need-slice-aggregate-line
-slice-aggregate-line c =
-    let a = c .before .before .before .before .before .before .before .before .args in
-    sym (line-length (a .exe-name .now) (a .units .now) (c .before .before .before .find-nul .result) (c .before .before .before .find-nul .ensures))
+slice-aggregate-line c = sym (sized (c .before .before))
 
 slice-relend-prefix-lay-line : tie.Need-slice-relend-prefix-lay-line
 slice-relend-prefix-lay-line c = search needs

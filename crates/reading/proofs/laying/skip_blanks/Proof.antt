@@ -1,17 +1,15 @@
 -- `reading::laying::skip_blanks` meets its contract. Assumes nothing.
 use borrow.Author.Needs.{needs}
-use mathlib.Core.Path.{_≡_, ap}
-use Prim.Native.Nat.{_+_, _≤_, ℕ}
+use mathlib.Core.Path.{ap}
+use Prim.Native.Nat.{_+_, ℕ}
 use native.Mathlib.Omega.{arith}
-use lib.ListN.{drop, length}
 use Rattle.rules.specs.Unit.{isBlank}
-use Rattle.laws.specs.Scan.{leading}
-use Rattle.reading.proofs.Run.{run-at}
+use Rattle.reading.proofs.Run.{RunAt, run-at}
 use Rattle.reading.proofs.laying.skip_blanks.Statement.{statement}
 use Rattle.reading.proofs.laying.skip_blanks.Tie as tie
 
--- the run of blanks at i, and that it lies in the line
-run-is : (c : tie.After-blanks) → (c .blanks .result ≡ leading isBlank (drop (c .before .before .before .args .i) (c .before .before .before .args .line .now))) × (c .before .before .before .args .i + c .blanks .result ≤ length (c .before .before .before .args .line .now))
+-- the run of blanks at i
+run-is : (c : tie.After-blanks) → RunAt isBlank (c .before .before .before .args .line .now) (c .before .before .before .args .i) (c .blanks .result)
 run-is c = run-at isBlank (c .before .before .before .args .line .now) (c .before .before .before .args .i) (c .before .before .before .pre) (c .blanks .ensures)
 
 mul-blanks : tie.Need-mul-blanks

@@ -2,13 +2,13 @@
 use borrow.Author.Needs.{needs}
 use mathlib.Core.Path.{_∙_, _≡_, ap}
 use mathlib.Core.Bool.{false}
-use Prim.Native.Nat.{_+_, _-_, _≤_}
+use mathlib.Core.List.{List}
+use Prim.Native.Nat.{ℕ, _+_, _-_}
 use native.Mathlib.Omega.{arith}
 use lib.ListN.{drop, length}
-use lib.Seq.{drop-drop, sets}
-use Rattle.laws.specs.Scan.{leading}
+use lib.Seq.{sets}
 use Rattle.reading.specs.Run.{isPlain, startsWith}
-use Rattle.reading.proofs.Run.{part-run, run-at, run-stops}
+use Rattle.reading.proofs.Run.{RunAt, part-run, run-at, stops-at}
 use Rattle.reading.proofs.First as F
 use Rattle.reading.proofs.First.{Keeping}
 use Rattle.reading.proofs.one.read_first.Statement.{statement}
@@ -20,23 +20,34 @@ Inv-loop line out₀ i₀ n₀ quoted₀ out i n quoted = Keeping line out₀ ou
 abbrev μ-loop : tie.MeasureT-loop
 μ-loop line out₀ i₀ n₀ quoted₀ out i n quoted = length line - i
 
--- the run of units that are kept at i, and that it lies in the line
-run-is : (c : tie.After-plain-run Inv-loop μ-loop) → (c .plain-run .result ≡ leading (isPlain false (c .before .before .before .loop .quoted)) (drop (c .before .before .before .loop .i) (c .before .before .before .before .before .before .args .line .now))) × (c .before .before .before .loop .i + c .plain-run .result ≤ length (c .before .before .before .before .before .before .args .line .now))
-run-is c = run-at (isPlain false (c .before .before .before .loop .quoted)) (c .before .before .before .before .before .before .args .line .now) (c .before .before .before .loop .i) (c .before .before .before .loop .inv .within) (c .plain-run .ensures)
+-- the line, and the turn that a run belongs to
+abbrev line : tie.After-plain-run Inv-loop μ-loop → List ℕ
+line c = c .before .before .before .before .before .before .args .line .now
 
--- what is left behind the run
-kept : (c : tie.After-slice-known2 Inv-loop μ-loop) → Keeping (c .before .before .before .before .before .before .before .before .before .before .before .args .line .now) (c .before .before .before .before .before .before .before .before .before .before .before .args .out .now) (c .before .before .copy-run .last .0) (c .before .before .before .before .before .before .before .before .loop .i + c .before .before .before .before .before .plain-run .result) (c .before .before .before .before .before .before .before .before .loop .n + c .before .before .before .before .before .plain-run .result) (c .before .before .before .before .before .before .before .before .loop .quoted)
+abbrev turn : tie.After-plain-run Inv-loop μ-loop → tie.At-loop Inv-loop μ-loop
+turn c = c .before .before .before
+
+-- the run of units that are kept at i
+run-is : (c : tie.After-plain-run Inv-loop μ-loop) → RunAt (isPlain false (turn c .loop .quoted)) (line c) (turn c .loop .i) (c .plain-run .result)
+run-is c =
+    let l = turn c .loop in
+    run-at (isPlain false (l .quoted)) (line c) (l .i) (l .inv .within) (c .plain-run .ensures)
+
+-- no unit behind it is kept
+stopped : (c : tie.After-plain-run Inv-loop μ-loop) → startsWith (isPlain false (turn c .loop .quoted)) (drop (turn c .loop .i + c .plain-run .result) (line c)) ≡ false
+stopped c = stops-at (isPlain false (turn c .loop .quoted)) (line c) (turn c .loop .i) (run-is c .0)
+
+-- the place of the run that was copied
+abbrev found : tie.After-slice-known2 Inv-loop μ-loop → tie.After-plain-run Inv-loop μ-loop
+found c = c .before .before .before .before .before
+
+-- what is left behind it
+kept : (c : tie.After-slice-known2 Inv-loop μ-loop)
+    → Keeping (line (found c)) (found c .before .before .before .before .before .before .args .out .now) (c .before .before .copy-run .last .0) (turn (found c) .loop .i + found c .plain-run .result) (turn (found c) .loop .n + found c .plain-run .result) (turn (found c) .loop .quoted)
 kept c =
-    let l = c .before .before .before .before .before .before .before .before .loop in
-    let run = c .before .before .before .before .before .plain-run .result in
-    F.keeps (l .inv) run (run-is (c .before .before .before .before .before) .0) (c .before .before .copy-run .ensures ∙ ap (sets (l .out) (l .n)) (part-run (c .before .before .before .before .before .before .before .before .before .before .before .args .line .now) (l .i) run))
-
--- no unit behind the run is kept
-stopped : (c : tie.After-plain-run Inv-loop μ-loop) → startsWith (isPlain false (c .before .before .before .loop .quoted)) (drop (c .before .before .before .loop .i + c .plain-run .result) (c .before .before .before .before .before .before .args .line .now)) ≡ false
-stopped c =
-    let l = c .before .before .before .loop in
-    let line = c .before .before .before .before .before .before .args .line .now in
-    rw (← drop-drop (c .plain-run .result) (l .i) line, run-is c .0) (run-stops (isPlain false (l .quoted)) (drop (l .i) line))
+    let l = turn (found c) .loop in
+    let run = found c .plain-run .result in
+    F.keeps (l .inv) run (run-is (found c) .0) (c .before .before .copy-run .ensures ∙ ap (sets (l .out) (l .n)) (part-run (line (found c)) (l .i) run))
 
 loop-holds : tie.Need-loop-holds Inv-loop μ-loop
 loop-holds c = F.starts _ _
@@ -96,7 +107,9 @@ same-length-2 : tie.Need-same-length-2 Inv-loop μ-loop
 same-length-2 c = F.same-length (kept (c .before .before .before))
 
 returns-2 : tie.Need-returns-2 Inv-loop μ-loop
-returns-2 c = F.stops (kept (c .before .before .before)) (c .before .before .if1 .left) (c .if2 .taken) (stopped (c .before .before .before .before .before .before .before .before))
+returns-2 c =
+    let k = c .before .before .before in
+    F.stops (kept k) (c .before .before .if1 .left) (c .if2 .taken) (stopped (found k))
 
 loop-less : tie.Need-loop-less Inv-loop μ-loop
 loop-less c = search needs

@@ -1,7 +1,7 @@
 -- `reading::one::read_later` meets its contract. Assumes nothing.
 use borrow.Author.Needs.{needs}
 use mathlib.Core.Path.{_∙_, sym}
-use Prim.Native.Nat.{_-_}
+use Prim.Native.Nat.{_+_, _-_, _≤_}
 use native.Mathlib.Omega.{arith}
 use lib.ListN.{length, length-drop}
 use Rattle.reading.proofs.Turn as T
@@ -14,6 +14,12 @@ Inv-loop rest out₀ i₀ n₀ quoted₀ out i n quoted = Reading rest out₀ ou
 
 abbrev μ-loop : tie.MeasureT-loop
 μ-loop rest out₀ i₀ n₀ quoted₀ out i n quoted = length rest - i
+
+-- a piece lies in the rest
+read-in : (c : tie.After-read-piece Inv-loop μ-loop) → c .before .before .before .before .before .before .loop .i + c .read-piece .result .used ≤ length (c .before .before .before .before .before .before .before .before .before .args .rest .now)
+read-in c =
+    let l = c .before .before .before .before .before .before in
+    omega (arith, c .read-piece .ensures .within, length-drop (l .loop .i) (l .before .before .before .args .rest .now))
 
 loop-holds : tie.Need-loop-holds Inv-loop μ-loop
 loop-holds c = T.starts _ (c .before .before .pre .0) (c .before .before .pre .1)
@@ -40,16 +46,18 @@ read-piece-requires : tie.Need-read-piece-requires Inv-loop μ-loop
 read-piece-requires c κs = (c .before .before .before .before .loop-test .taken, c .before .before .before .before .before .loop .inv .few, sym (c .before .before .is-end .ensures) ∙ c .before .if1 .left)
 
 add-i : tie.Need-add-i Inv-loop μ-loop
-add-i c = omega (arith, c .before .before .before .read-piece .ensures .within, length-drop (c .before .before .before .before .before .before .before .before .before .loop .i) (c .before .before .before .before .before .before .before .before .before .before .before .before .args .rest .now))
+add-i c = omega (arith, read-in (c .before .before .before))
 
 add-n : tie.Need-add-n Inv-loop μ-loop
-add-n c = omega (arith, c .before .before .before .before .read-piece .ensures .within, c .before .before .before .before .read-piece .ensures .few, length-drop (c .before .before .before .before .before .before .before .before .before .before .loop .i) (c .before .before .before .before .before .before .before .before .before .before .before .before .before .args .rest .now))
+add-n c = omega (arith, read-in (c .before .before .before .before), c .before .before .before .before .read-piece .ensures .few)
 
 loop-less : tie.Need-loop-less Inv-loop μ-loop
-loop-less c = omega (arith, c .before .before .before .before .read-piece .ensures .within, c .before .before .before .before .read-piece .ensures .some, length-drop (c .before .before .before .before .before .before .before .before .before .before .loop .i) (c .before .before .before .before .before .before .before .before .before .before .before .before .before .args .rest .now))
+loop-less c = omega (arith, read-in (c .before .before .before .before), c .before .before .before .before .read-piece .ensures .some)
 
 loop-again : tie.Need-loop-again Inv-loop μ-loop
-loop-again c = T.turn (c .before .before .before .before .before .before .before .before .before .before .loop .inv) (c .before .before .before .before .read-piece .ensures)
+loop-again c =
+    let l = c .before .before .before .before .before .before .before .before .before .before .loop in
+    T.turn (l .inv) (c .before .before .before .before .read-piece .ensures)
 
 same-length-2 : tie.Need-same-length-2 Inv-loop μ-loop
 same-length-2 c = T.same-length (c .before .loop .inv)

@@ -1,27 +1,33 @@
 -- `reading::pieces::read_piece` meets its contract. Assumes nothing.
 use borrow.Author.Needs.{needs}
-use mathlib.Core.Path.{_∙_, _≡_, ap}
-use Prim.Native.Nat.{_+_, _<_, _≤_}
+use mathlib.Core.Path.{_∙_, ap}
+use Prim.Native.Nat.{_<_}
 use native.Mathlib.Omega.{arith}
-use lib.ListN.{drop, length}
 use lib.Seq.{sets}
-use Rattle.laws.specs.Scan.{leading}
 use Rattle.reading.specs.Run.{isPlain}
-use Rattle.reading.proofs.Run.{part-run, run-at, run-some}
-use Rattle.reading.proofs.Piece.{plain, plain-is}
+use Rattle.reading.proofs.Run.{RunAt, part-run, run-at, run-some}
+use Rattle.reading.proofs.Piece.{plain-is}
+use Rattle.reading.proofs.Piece as P
 use mathlib.Core.Bool.{true}
 use Rattle.reading.proofs.pieces.read_piece.Statement.{statement}
 use Rattle.reading.proofs.pieces.read_piece.Tie as tie
 
--- the run of plain units at i, and that it lies in the rest
-run-is : (c : tie.After-plain-run) → (c .plain-run .result ≡ leading (isPlain true (c .before .before .before .before .before .before .before .before .args .quoted)) (drop (c .before .before .before .before .before .before .before .before .args .i) (c .before .before .before .before .before .before .before .before .args .rest .now))) × (c .before .before .before .before .before .before .before .before .args .i + c .plain-run .result ≤ length (c .before .before .before .before .before .before .before .before .args .rest .now))
-run-is c = run-at (isPlain true (c .before .before .before .before .before .before .before .before .args .quoted)) (c .before .before .before .before .before .before .before .before .args .rest .now) (c .before .before .before .before .before .before .before .before .args .i) (omega (arith, c .before .before .before .before .before .before .before .before .pre)) (c .plain-run .ensures)
+-- where the function begins
+abbrev start : tie.After-plain-run → tie.Start
+start c = c .before .before .before .before .before .before .before .before
+
+-- the run of plain units at i
+run-is : (c : tie.After-plain-run) → RunAt (isPlain true (start c .args .quoted)) (start c .args .rest .now) (start c .args .i) (c .plain-run .result)
+run-is c =
+    let a = start c .args in
+    run-at (isPlain true (a .quoted)) (a .rest .now) (a .i) (omega (arith, start c .pre)) (c .plain-run .ensures)
 
 -- it has one at least
 some : (c : tie.After-plain-run) → 0 < c .plain-run .result
 some c =
-    let a = c .before .before .before .before .before .before .before .before .args in
-    run-some (isPlain true (a .quoted)) (a .rest .now) (a .i) (c .before .before .before .before .before .before .before .before .pre .0) (plain-is (a .quoted) _ (c .before .before .before .before .if1 .left) (c .before .before .if2 .left) (c .before .before .before .before .before .before .before .before .pre .2)) (run-is c .0)
+    let a = start c .args in
+    let plain = plain-is (a .quoted) _ (c .before .before .before .before .if1 .left) (c .before .before .if2 .left) (start c .pre .2) in
+    run-some (isPlain true (a .quoted)) (a .rest .now) (a .i) (start c .pre .0) plain (run-is c .0)
 
 mul-if1 : tie.Need-mul-if1
 mul-if1 c = search needs
@@ -92,8 +98,8 @@ same-length-3 c = search needs
 returns-3 : tie.Need-returns-3
 returns-3 c =
     let b = c .before .before .before .before .before in
-    let a = b .before .before .before .before .before .before .before .before .args in
-    plain _ _ _ _ (run-is b .0) (some b) (c .before .before .copy-run .ensures ∙ ap (sets (a .out .now) (a .n)) (part-run (a .rest .now) (a .i) (b .plain-run .result)))
+    let a = start b .args in
+    P.plain _ _ _ _ (run-is b .0) (some b) (c .before .before .copy-run .ensures ∙ ap (sets (a .out .now) (a .n)) (part-run (a .rest .now) (a .i) (b .plain-run .result)))
 
 pub read-piece-spec : {M : Type 1} → statement M
 read-piece-spec =

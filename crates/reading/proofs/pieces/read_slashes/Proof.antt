@@ -1,34 +1,37 @@
 -- `reading::pieces::read_slashes` meets its contract. Assumes nothing.
 use borrow.Author.Needs.{needs}
 use mathlib.Core.Path.{_∙_, _≡_, ap, sym}
-use Prim.Native.Nat.{_+_, _<_, _≤_}
+use Prim.Native.Nat.{_+_, _<_}
 use native.Mathlib.Omega.{arith}
 use borrow.Author.Tests.{eq-eqb}
-use lib.ListN.{drop, length}
+use lib.ListN.{drop}
 use lib.Seq.{drop-drop}
 use Rattle.rules.specs.Unit.{isBackslash, isQuote}
-use Rattle.laws.specs.Scan.{leading}
 use Rattle.laws.specs.Store.{part-is}
 use Rattle.reading.specs.Run.{startsWith}
-use Rattle.reading.proofs.Run.{run-at, run-some}
+use Rattle.reading.proofs.Run.{RunAt, run-at, run-some}
 use Rattle.reading.proofs.Piece.{escaped, halved, literal}
 use Rattle.reading.proofs.pieces.read_slashes.Statement.{statement}
 use Rattle.reading.proofs.pieces.read_slashes.Tie as tie
 
--- the run of backslashes at i, and that it lies in the rest
-run-is : (c : tie.After-backslashes) → (c .backslashes .result ≡ leading isBackslash (drop (c .before .before .before .before .args .i) (c .before .before .before .before .args .rest .now))) × (c .before .before .before .before .args .i + c .backslashes .result ≤ length (c .before .before .before .before .args .rest .now))
-run-is c = run-at isBackslash (c .before .before .before .before .args .rest .now) (c .before .before .before .before .args .i) (omega (arith, c .before .before .before .before .pre)) (c .backslashes .ensures)
+-- where the function begins
+abbrev start : tie.After-backslashes → tie.Start
+start c = c .before .before .before .before
+
+-- the run of backslashes at i
+run-is : (c : tie.After-backslashes) → RunAt isBackslash (start c .args .rest .now) (start c .args .i) (c .backslashes .result)
+run-is c = run-at isBackslash (start c .args .rest .now) (start c .args .i) (omega (arith, start c .pre)) (c .backslashes .ensures)
 
 -- it has one at least
 some : (c : tie.After-backslashes) → 0 < c .backslashes .result
-some c = run-some isBackslash (c .before .before .before .before .args .rest .now) (c .before .before .before .before .args .i) (c .before .before .before .before .pre .0) (eq-eqb _ 92 (c .before .before .before .before .pre .2)) (run-is c .0)
+some c = run-some isBackslash (start c .args .rest .now) (start c .args .i) (start c .pre .0) (eq-eqb _ 92 (start c .pre .2)) (run-is c .0)
 
 -- whether a quote mark stands behind it
-quote-is : (c : tie.After-starts-with-quote) → startsWith isQuote (drop (c .before .before .backslashes .result) (drop (c .before .before .before .before .before .before .args .i) (c .before .before .before .before .before .before .args .rest .now))) ≡ c .starts-with-quote .result
+quote-is : (c : tie.After-starts-with-quote)
+    → startsWith isQuote (drop (c .before .before .backslashes .result) (drop (start (c .before .before) .args .i) (start (c .before .before) .args .rest .now))) ≡ c .starts-with-quote .result
 quote-is c =
-    let rest = c .before .before .before .before .before .before .args .rest .now in
-    let end = c .before .before .before .before .before .before .args .i + c .before .before .backslashes .result in
-    rw drop-drop (ap (startsWith isQuote) (sym (part-is end rest)) ∙ sym (c .starts-with-quote .ensures))
+    let a = start (c .before .before) .args in
+    rw drop-drop (ap (startsWith isQuote) (sym (part-is (a .i + c .before .before .backslashes .result) (a .rest .now))) ∙ sym (c .starts-with-quote .ensures))
 
 mul-backslashes : tie.Need-mul-backslashes
 mul-backslashes c = search needs
@@ -67,16 +70,22 @@ repeat-requires : tie.Need-repeat-requires
 repeat-requires c κs = search needs
 
 add-put : tie.Need-add-put
-add-put c = omega (arith, run-is (c .before .before .before .before .before .before .before .before .before), c .before .before .before .before .before .before .before .before .before .before .before .before .before .pre)
+add-put c =
+    let b = c .before .before .before .before .before .before .before .before .before in
+    omega (arith, run-is b, start b .pre)
 
 put-requires : tie.Need-put-requires
 put-requires c κs = search needs
 
 add-t26 : tie.Need-add-t26
-add-t26 c = omega (arith, run-is (c .before .before .before .before .before .before .before .before .before .before .before .before), c .before .before .before .before .before .before .before .before .before .before .before .before .before .before .before .before .pre)
+add-t26 c =
+    let b = c .before .before .before .before .before .before .before .before .before .before .before .before in
+    omega (arith, run-is b, start b .pre)
 
 add-t27 : tie.Need-add-t27
-add-t27 c = omega (arith, run-is (c .before .before .before .before .before .before .before .before .before .before .before .before), c .before .before .before .before .before .before .before .before .before .before .before .before .before .before .before .before .pre)
+add-t27 c =
+    let b = c .before .before .before .before .before .before .before .before .before .before .before .before in
+    omega (arith, run-is b, start b .pre)
 
 same-length : tie.Need-same-length
 same-length c = search needs
