@@ -15,11 +15,13 @@ Inv-loop rest out₀ i₀ n₀ quoted₀ out i n quoted = Reading rest out₀ ou
 abbrev μ-loop : tie.MeasureT-loop
 μ-loop rest out₀ i₀ n₀ quoted₀ out i n quoted = length rest - i
 
+-- the turn that a piece belongs to
+abbrev turn : tie.After-read-piece Inv-loop μ-loop → tie.At-loop Inv-loop μ-loop
+turn c = c .before .before .before .before .before .before
+
 -- a piece lies in the rest
-read-in : (c : tie.After-read-piece Inv-loop μ-loop) → c .before .before .before .before .before .before .loop .i + c .read-piece .result .used ≤ length (c .before .before .before .before .before .before .before .before .before .args .rest .now)
-read-in c =
-    let l = c .before .before .before .before .before .before in
-    omega (arith, c .read-piece .ensures .within, length-drop (l .loop .i) (l .before .before .before .args .rest .now))
+read-in : (c : tie.After-read-piece Inv-loop μ-loop) → turn c .loop .i + c .read-piece .result .used ≤ length (turn c .before .before .before .args .rest .now)
+read-in c = omega (arith, c .read-piece .ensures .within, length-drop (turn c .loop .i) (turn c .before .before .before .args .rest .now))
 
 loop-holds : tie.Need-loop-holds Inv-loop μ-loop
 loop-holds c = T.starts _ (c .before .before .pre .0) (c .before .before .pre .1)

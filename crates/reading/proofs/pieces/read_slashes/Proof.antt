@@ -93,7 +93,10 @@ same-length c = search needs
 returns : tie.Need-returns
 returns c =
     let b = c .before .before .before .before .before .before .before .before .before .before .before .before in
-    escaped _ _ _ _ _ (run-is b .0) (some b) (quote-is (c .before .before .before .before .before .before .before .before .before .before) ∙ c .before .before .before .before .before .before .before .before .before .if1 .taken) (c .before .before .before .before .if2 .taken) (c .before .before .before .before .before .before .before .repeat .ensures) (c .before .before .put .ensures)
+    let q = c .before .before .before .before .before .before .before .before .before .before in
+    let marked = c .before .before .before .before .before .before .before .before .before .if1 .taken in
+    let repeated = c .before .before .before .before .before .before .before .repeat in
+    escaped _ _ _ _ _ (run-is b .0) (some b) (quote-is q ∙ marked) (c .before .before .before .before .if2 .taken) (repeated .ensures) (c .before .before .put .ensures)
 
 same-length-2 : tie.Need-same-length-2
 same-length-2 c = search needs
