@@ -17,3 +17,4 @@ pub mod Front
 pub mod Span
 pub mod Told
 pub mod Parts
+pub mod Records
