@@ -1,0 +1,11 @@
+pub mod Letters
+pub mod Findings
+pub mod Flat
+pub mod Runs
+pub mod Adding
+pub mod Script
+pub mod Head
+pub mod Settled
+pub mod Totals
+pub mod Whole
+pub mod Both

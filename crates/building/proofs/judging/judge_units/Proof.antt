@@ -1,0 +1,27 @@
+-- `building::judging::judge_units` meets its contract. Assumes nothing.
+use borrow.Author.Needs.{needs}
+use Rattle.building.proofs.judging.judge_units.Statement.{statement}
+use Rattle.building.proofs.judging.judge_units.Tie as tie
+
+part-of-requires : tie.Need-part-of-requires
+part-of-requires c κs = search needs
+
+breaks-line-requires : tie.Need-breaks-line-requires
+breaks-line-requires c κs = search needs
+
+returns : tie.Need-returns
+returns c = rw (← c .before .before .part-of .ensures .names, ← c .before .breaks-line .ensures, c .if1 .taken)
+
+has-nul-requires : tie.Need-has-nul-requires
+has-nul-requires c κs = search needs
+
+returns-2 : tie.Need-returns-2
+returns-2 c = rw (← c .before .before .before .before .part-of .ensures .names, ← c .before .before .before .breaks-line .ensures, c .before .before .if1 .left, ← c .before .has-nul .ensures, c .if2 .taken)
+
+returns-3 : tie.Need-returns-3
+returns-3 c = rw (← c .before .before .before .before .part-of .ensures .names, ← c .before .before .before .breaks-line .ensures, c .before .before .if1 .left, ← c .before .has-nul .ensures, c .if2 .left)
+
+pub judge-units-spec : {M : Type 1} → statement M
+judge-units-spec =
+    tie.close
+    (tie.spec part-of-requires breaks-line-requires returns has-nul-requires returns-2 returns-3)

@@ -1,0 +1,56 @@
+// Command lines from lists of arguments: ordinary lines, batch lines, and the test for a batch suffix.
+ghost use mathlib.Core.Path.{_≡_};
+ghost use lib.ListN.{length};
+ghost use Rattle.rules.specs.Answer.{Answered};
+ghost use Rattle.rules.specs.Building.{commandLine, batchCommandLine};
+ghost use Rattle.rules.specs.Suffix.{hasBatchSuffix};
+use rules::Built;
+use units::classes;
+
+pub mod judging;
+pub mod lines;
+pub mod names;
+pub mod passes;
+pub mod records;
+pub mod stages;
+pub mod suffix;
+pub mod writing;
+
+// Whether a path has a batch suffix. In the Rust: a closure of `spawn`, library/std/src/sys/process/windows.rs.
+pub fn has_bat_extension(path: &[u16]) -> bool
+    ensures { λ r. ⌜ r ≡ hasBatchSuffix (now (path .entry)) ⌝ }
+{
+    let n = path.len();
+    if n < 4 {
+        return false;
+    }
+    suffix::is_suffix(path[n - 4], path[n - 3], path[n - 2], path[n - 1])
+}
+
+// Builds an ordinary command line from records, three numbers each: kind, start and length in the text. In the Rust: `make_command_line`.
+pub fn make_command_line(
+    program: &[u16],
+    records: &[u32],
+    text: &[u16],
+    force_quotes: bool,
+    out: &mut [u16],
+) -> Built
+    ensures { λ r. ⌜ Answered (commandLine «force_quotes» (now (program .entry)) (now (records .entry)) (now (text .entry)) (length (now (out .entry)))) r (now (out .entry)) (now (out .exit)) ⌝ }
+{
+    let classes = classes::classes();
+    lines::build(&classes, false, force_quotes, program, records, text, out)
+}
+
+// Builds the line that runs a batch script. In the Rust: `make_bat_command_line`.
+pub fn make_bat_command_line(
+    script: &[u16],
+    records: &[u32],
+    text: &[u16],
+    force_quotes: bool,
+    out: &mut [u16],
+) -> Built
+    ensures { λ r. ⌜ Answered (batchCommandLine «force_quotes» (now (script .entry)) (now (records .entry)) (now (text .entry)) (length (now (out .entry)))) r (now (out .entry)) (now (out .exit)) ⌝ }
+{
+    let classes = classes::classes();
+    lines::build(&classes, true, force_quotes, script, records, text, out)
+}
