@@ -27,6 +27,11 @@ fn best(mut call: impl FnMut()) -> f64 {
         .fold(f64::INFINITY, f64::min)
 }
 
+/// Keeps a result, and drops it, so that the work for it is done.
+fn seen<T>(result: T) {
+    drop(black_box(result));
+}
+
 fn row(name: &str, old: f64, new: f64) {
     println!("{name:<44} {old:>12.0} {new:>12.0} {:>8.1}", old / new);
 }
@@ -38,13 +43,13 @@ fn lines(case: &Case, ours: &mut ours::Buffers) {
     let line = prepared.line(case.force);
     assert_eq!(line, ours.line(&inputs::wide("export.exe"), &flat, case.force), "{}", case.name);
     let (program, name) = (inputs::wide("export.exe"), case.name);
-    let old = best(|| drop(black_box(prepared.line(case.force))));
-    let new = best(|| drop(black_box(ours.line(&program, &flat, case.force).len())));
+    let old = best(|| seen(prepared.line(case.force)));
+    let new = best(|| seen(ours.line(&program, &flat, case.force).len()));
     row(&format!("write {name}"), old, new);
     let count = read(&line).len();
     assert_eq!(count, ours.read(&line), "{name}");
-    let old = best(|| drop(black_box(read(black_box(&line)))));
-    let new = best(|| drop(black_box(ours.read(black_box(&line)))));
+    let old = best(|| seen(read(black_box(&line))));
+    let new = best(|| seen(ours.read(black_box(&line))));
     row(&format!("read {name}"), old, new);
 }
 
@@ -52,8 +57,8 @@ fn batches(case: &Case, ours: &mut ours::Buffers) {
     let (script, flat) = (inputs::wide("load.bat"), ours::Flat::new(&case.args));
     let prepared = Prepared::new(&script, &case.args);
     assert_eq!(prepared.batch(case.force), ours.batch(&script, &flat, case.force), "{}", case.name);
-    let old = best(|| drop(black_box(prepared.batch(case.force))));
-    let new = best(|| drop(black_box(ours.batch(&script, &flat, case.force).len())));
+    let old = best(|| seen(prepared.batch(case.force)));
+    let new = best(|| seen(ours.batch(&script, &flat, case.force).len()));
     row(&format!("batch {}", case.name), old, new);
 }
 
@@ -70,14 +75,14 @@ fn blocks(ours: &mut ours::Buffers) {
         black_box(block(map));
         old = old.min(start.elapsed().as_nanos() as f64);
     }
-    let new = best(|| drop(black_box(ours.block(&flat).len())));
+    let new = best(|| seen(ours.block(&flat).len()));
     row("block of 60 entries", old, new);
 }
 
 fn statuses(ours: &mut ours::Buffers) {
     for status in [7, 3_221_225_477] {
-        let old = best(|| drop(black_box(oracle::process::status(black_box(status)).0)));
-        let new = best(|| drop(black_box(ours.status(black_box(status)))));
+        let old = best(|| seen(oracle::process::status(black_box(status)).0));
+        let new = best(|| seen(ours.status(black_box(status))));
         row(&format!("status {status}"), old, new);
     }
 }
@@ -88,9 +93,9 @@ fn growth(ours: &mut ours::Buffers) {
     for (name, text) in [("SQL with blanks", sql as fn(usize) -> Vec<u16>), ("Cyrillic", cyrillic)] {
         let flats = [1_000, 30_000].map(|n| ours::Flat::new(&[text(n)]));
         let program = inputs::wide("export.exe");
-        let write = [0, 1].map(|i| best(|| drop(black_box(ours.line(&program, &flats[i], false).len()))));
+        let write = [0, 1].map(|i| best(|| seen(ours.line(&program, &flats[i], false).len())));
         let lines = [0, 1].map(|i| ours.line(&program, &flats[i], false).to_vec());
-        let back = [0, 1].map(|i| best(|| drop(black_box(ours.read(black_box(&lines[i]))))));
+        let back = [0, 1].map(|i| best(|| seen(ours.read(black_box(&lines[i])))));
         for (verb, [small, large]) in [("write", write), ("read", back)] {
             println!("{:<44} {small:>12.0} {large:>12.0} {:>8.1}", format!("{verb} {name}"), large / small);
         }

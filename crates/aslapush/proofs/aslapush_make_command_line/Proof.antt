@@ -1,0 +1,21 @@
+-- `aslapush::aslapush_make_command_line` meets its contract. Assumes nothing.
+use borrow.Author.Needs.{needs}
+use Rattle.aslapush.proofs.Telling.{told-built}
+use Rattle.aslapush.proofs.aslapush_make_command_line.Statement.{statement}
+use Rattle.aslapush.proofs.aslapush_make_command_line.Tie as tie
+
+make-command-line-requires : tie.Need-make-command-line-requires
+make-command-line-requires c κs = search needs
+
+tell-built-requires : tie.Need-tell-built-requires
+tell-built-requires c κs = search needs
+
+same-length : tie.Need-same-length
+same-length c = search needs
+
+returns : tie.Need-returns
+returns c = told-built (c .before .before .before .before .make-command-line .ensures) (c .tell-built .ensures)
+
+pub aslapush-make-command-line-spec : {M : Type 1} → statement M
+aslapush-make-command-line-spec =
+    tie.close (tie.spec make-command-line-requires tell-built-requires same-length returns)

@@ -1,0 +1,48 @@
+-- What an exported function promises: the same as the entry point under it, in numbers and lent arrays. Assumes nothing.
+use Prim.Native.Nat.{ℕ, _*_, _+_}
+use mathlib.Core.Path.{_≡_}
+use mathlib.Core.Bool.{Bool}
+use mathlib.Core.List.{List, [], _∷_}
+use lib.Dec.{eqb, ltb}
+use lib.ListN.{length, getD}
+use Rattle.rules.specs.Choice.{pick, flip}
+use Rattle.rules.specs.Outcome.{Outcome, filled}
+use Rattle.rules.specs.Record.{exceeds}
+use Rattle.rules.specs.Reading.{placesOf}
+use Rattle.rules.specs.Answer.{Said, unitsSaid, argumentsSaid, outcomeTexts, outcomeSpans}
+
+-- any number but 0 forces quotes
+abbrev pub forces : ℕ → Bool
+forces flag = flip (eqb flag 0)
+
+-- the lent array afterwards: place, arguments, units, 0
+abbrev pub counts : Said → List ℕ
+counts s = s .place ∷ s .arguments ∷ s .units ∷ 0 ∷ []
+
+-- the number that is returned and the lent array say what is said
+pub record Told (s : Said) (number : ℕ) (answer : List ℕ) : Type 0 where
+  pub returns : number ≡ s .number
+  pub fills : answer ≡ counts s
+
+-- an exported function that writes units
+pub record Wrote (o : Outcome (List ℕ)) (number : ℕ) (answer before after : List ℕ) : Type 0 where
+  pub tells : Told (unitsSaid o) number answer
+  pub leaves : after ≡ filled before o
+
+-- the exported reader
+pub record Gave (o : Outcome (List (List ℕ))) (number : ℕ) (answer text text′ spans spans′ : List ℕ) : Type 0 where
+  pub tells : Told (argumentsSaid o) number answer
+  pub leaves : text′ ≡ filled text (outcomeTexts o)
+  pub tabulates : spans′ ≡ filled spans (outcomeSpans o)
+
+-- start and length of one argument's part; 0 and 0 where it is the empty part of an index not in the table or of a span reaching past the text
+unfoldable pub argumentSpan : List ℕ → List ℕ → ℕ → List ℕ
+argumentSpan text spans index =
+    let start = getD spans (2 * index) 0 in
+    let size = getD spans (2 * index + 1) 0 in
+    let named = pick (exceeds text start size) (0 ∷ 0 ∷ []) (start ∷ size ∷ []) in
+    pick (ltb index (placesOf (length spans))) named (0 ∷ 0 ∷ [])
+
+-- a truth as a number
+abbrev pub asNumber : Bool → ℕ
+asNumber b = pick b 1 0

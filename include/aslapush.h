@@ -1,0 +1,102 @@
+/* aslapush.h: launch lines for Windows processes, written and read in UTF-16 units, proved.
+ *
+ * Link target/staticlib/libaslapush.a (`rt staticlib aslapush`), x86-64.
+ *
+ * Units are UTF-16 code units; unpaired surrogates are ordinary units. Nothing is allocated and nothing is kept: every text, table and output is
+ * lent by the caller as a pointer and a number of elements. A pointer is never NULL, also where its length is 0, and an output overlaps nothing else
+ * that is lent to the same call. That is all a caller owes: any content may be lent.
+ *
+ * Functions that can refuse return the refusal's number, 0 for an answer, and fill answer[4]:
+ *     answer[0]  the refusal's place: the index of the record at fault plus 1, else 0
+ *     answer[1]  the number of arguments read (reading only)
+ *     answer[2]  the number of units written
+ *     answer[3]  0
+ * On a refusal answer[1] and answer[2] are 0 and nothing else that was lent changes. On success the result fills the front of the output (and of the
+ * span table), and everything behind it keeps its content.
+ *
+ *     1  ASLAPUSH_RECORD      a record's kind is not 0 or 1, its part reaches past the text, or the list ends inside a record
+ *     2  ASLAPUSH_LENGTH      over 32,767 units to read or in a built line, over 65,535 in a block
+ *     3  ASLAPUSH_SPANS       the span table has fewer places than there are arguments
+ *     4  ASLAPUSH_ROOM        the output has fewer units than the whole result
+ *     5  ASLAPUSH_NUL         a NUL in a program, script, argument, key or value
+ *     6  ASLAPUSH_LINE_BREAK  CR or LF in a regular argument of a batch line
+ *     7  ASLAPUSH_SCRIPT      a script contains a quote mark or ends with a backslash
+ */
+#ifndef ASLAPUSH_H
+#define ASLAPUSH_H
+
+#include <stddef.h>
+#include <stdint.h>
+
+#ifdef __cplusplus
+extern "C" {
+#endif
+
+enum {
+    ASLAPUSH_RECORD = 1,
+    ASLAPUSH_LENGTH = 2,
+    ASLAPUSH_SPANS = 3,
+    ASLAPUSH_ROOM = 4,
+    ASLAPUSH_NUL = 5,
+    ASLAPUSH_LINE_BREAK = 6,
+    ASLAPUSH_SCRIPT = 7
+};
+
+/* Kinds of argument records. */
+enum { ASLAPUSH_REGULAR = 0, ASLAPUSH_RAW = 1 };
+
+/* Room that is always enough: units of a line or of a line's texts, numbers of a span table, units of a block, units of a status text. */
+enum { ASLAPUSH_LINE_UNITS = 32767, ASLAPUSH_SPAN_NUMBERS = 32768, ASLAPUSH_BLOCK_UNITS = 65535, ASLAPUSH_STATUS_UNITS = 21 };
+
+/* Reads a line by the C run-time rules. The line is the lent units up to the first NUL or the end; an empty line has one argument, the executable name
+ * as it is. The texts lie one after another from the front of `text`; `spans` gets start and length of each.
+ * Refuses 2, 3, 4, in this order.
+ *     exe "a b" c      gives 3 arguments, 7 units: texts `exea bc`, spans 0 3 3 3 6 1 */
+uint32_t aslapush_parse_lp_cmd_line(const uint16_t *units, size_t units_len, const uint16_t *exe_name, size_t exe_name_len, uint16_t *text,
+                                    size_t text_len, uint32_t *spans, size_t spans_len, uint64_t answer[4]);
+
+/* Start and length of argument `index` in `text`, by the span table: part[0] and part[1]. Both are 0 for an index not in the table or a span reaching
+ * past the text. Never refuses.
+ *     after the reading above, index 1 gives 3 and 3 */
+void aslapush_argument(const uint16_t *text, size_t text_len, const uint32_t *spans, size_t spans_len, size_t index, uint64_t part[2]);
+
+/* Builds an ordinary line: quote, program, quote, then one space and its form for each argument. `records` holds three numbers an argument: kind, start
+ * and length in `text`; parts may overlap. Any `force_quotes` but 0 puts every regular argument in quotes.
+ * Refuses 1 over all records; 5 for the program; 5 argument by argument; 2; 4.
+ *     program exe, records 0 0 3  0 3 0, text `a b`      gives "exe" "a b" "" */
+uint32_t aslapush_make_command_line(const uint16_t *program, size_t program_len, const uint32_t *records, size_t records_len, const uint16_t *text,
+                                    size_t text_len, uint32_t force_quotes, uint16_t *out, size_t out_len, uint64_t answer[4]);
+
+/* Builds the line that has cmd.exe run a batch script. One final NUL of the script is dropped.
+ * Refuses 1 over all records; 7; 5 for the script; then argument by argument 6 before 5; 2; 4.
+ *     script a.bat, records 0 0 3, text `x y`      gives cmd.exe /e:ON /v:OFF /d /c ""a.bat" "x y"" */
+uint32_t aslapush_make_bat_command_line(const uint16_t *script, size_t script_len, const uint32_t *records, size_t records_len, const uint16_t *text,
+                                        size_t text_len, uint32_t force_quotes, uint16_t *out, size_t out_len, uint64_t answer[4]);
+
+/* Builds an environment block: key, `=`, value, NUL for each entry, and one NUL more; no entries are two NULs. `records` holds four numbers an entry: start
+ * and length of the key, start and length of the value in `text`.
+ * Refuses 1 over all records; 5 entry by entry; 2; 4.
+ *     records 0 1 1 1, text `A1`      gives A=1 NUL NUL, 5 units */
+uint32_t aslapush_make_envp(const uint32_t *records, size_t records_len, const uint16_t *text, size_t text_len, uint16_t *out, size_t out_len,
+                            uint64_t answer[4]);
+
+/* Writes the text of a child process's recorded status. Refuses 4.
+ *     3221225477      gives exit code: 0xc0000005, 21 units */
+uint32_t aslapush_status_text(uint32_t status, uint16_t *out, size_t out_len, uint64_t answer[4]);
+
+/* The signed code of a recorded status. Never refuses.
+ *     3221225477      gives -1073741819 */
+int32_t aslapush_code(uint32_t status);
+
+/* 1 where a path, without terminator, ends in `.bat` or `.cmd` in letters of either case, else 0. Never refuses.
+ *     a.CMD      gives 1 */
+uint32_t aslapush_has_bat_extension(const uint16_t *path, size_t path_len);
+
+/* The class of a unit: 1 NUL, 2 CR and LF, 3 space and tab, 4 quote, 5 backslash, 6 percent, 7 other units that force quotes in a batch line, 0 the rest.
+ *     34      gives 4 */
+uint8_t aslapush_class_of(uint16_t unit);
+
+#ifdef __cplusplus
+}
+#endif
+#endif
