@@ -2,7 +2,7 @@
 use mathlib.Core.Path.{_≡_, refl, ap, _∙_}
 use mathlib.Core.Bool.{Bool, true, false}
 use mathlib.Core.List.{List, [], _∷_, _++_, append-nil}
-use Prim.Native.Nat.{ℕ, zero, suc, _+_, _*_, _/_, _≤_, _<_}
+use Prim.Native.Nat.{ℕ, zero, suc, _*_, _/_, _≤_, _<_}
 use native.Mathlib.Omega.{arith}
 use lib.ListN.{length, take}
 use lib.Seq.{sets, length-take-le}
@@ -13,9 +13,10 @@ use Rattle.rules.specs.declared.Parsed.the-variants as Parsed
 use Rattle.rules.specs.Choice.{pick, flip, isEmpty}
 use Rattle.rules.specs.Unit.{isNul}
 use Rattle.rules.specs.Outcome.{Outcome, done, refused}
-use Rattle.rules.specs.Reading.{lineOf, arguments, argumentsRead, unitsRead, readLimit, joined, spansOf, spansFrom, reading}
+use Rattle.rules.specs.Reading.{lineOf, arguments, argumentsRead, unitsRead, readLimit, joined, spansOf, reading}
 use Rattle.rules.specs.Answer.{refusal, parsedSaid, Read}
 use Rattle.laws.specs.Scan.{leading, before, leading-in}
+use Rattle.laws.specs.Span.{spans-length}
 use Rattle.laws.specs.Store.{sets-out, sets-front}
 use Rattle.reading.specs.Part.{Laid, lineArguments}
 
@@ -75,11 +76,6 @@ pub line-laid : (line executable : List ℕ) {text text′ spans spans′ : List
 unfolding lineArguments
 line-laid [] executable z r = absurd (z refl)
 line-laid (x ∷ line) executable z r = r
-
--- a table has two numbers for each argument
-pub spans-length : (start : ℕ) (args : List (List ℕ)) → length (spansFrom start args) ≡ 2 * length args
-spans-length start [] = omega arith
-spans-length start (a ∷ args) = let h : length (spansFrom (start + length a) args) ≡ 2 * length args = spans-length (start + length a) args in omega arith
 
 -- where no text was lent, none was stored
 pub text-kept : {args : List (List ℕ)} {text′ spans spans′ : List ℕ} {count units : ℕ} (d : List ℕ) → Laid args [] text′ spans spans′ count units → text′ ++ d ≡ d

@@ -1,10 +1,11 @@
 -- `reading::argument` meets its contract. Assumes nothing.
 use borrow.Author.Needs.{needs}
-use mathlib.Core.Path.{_∙_, _≡_, ap}
-use Prim.Native.Nat.{_*_, _+_, _-_, ℕ}
+use mathlib.Core.Path.{_∙_, _≡_, ap, refl, sym}
+use Prim.Native.Nat.{_*_, _+_, _-_, _≤_, ℕ}
 use native.Mathlib.Omega.{arith}
-use lib.ListN.{drop, getD, take}
-use Rattle.reading.proofs.Span.{no-place, past, there}
+use lib.ListN.{drop, getD, length, take}
+use Rattle.reading.proofs.Span.{part-past}
+use Rattle.laws.specs.Span.{part-missing, part-named}
 use Rattle.reading.proofs.argument.Statement.{statement}
 use Rattle.reading.proofs.argument.Tie as tie
 
@@ -12,7 +13,7 @@ slice-aggregate-result : tie.Need-slice-aggregate-result
 slice-aggregate-result c = search needs
 
 returns : tie.Need-returns
-returns c = no-place _ _ _ (c .before .if1 .taken)
+returns c = sym (part-missing _ _ _ (c .before .if1 .taken))
 
 mul-start : tie.Need-mul-start
 mul-start c = search needs
@@ -47,7 +48,7 @@ slice-aggregate-result-2 c = search needs
 returns-2 : tie.Need-returns-2
 returns-2 c =
     let a = c .before .before .before .before .before .args in
-    past (a .text .now) (a .spans .now) (a .index) (c .before .before .before .before .if1 .left) (omega (arith, c .before .if2 .taken))
+    sym (part-past (a .text .now) (a .spans .now) (a .index) (c .before .before .before .before .if1 .left) (omega (arith, c .before .if2 .taken)))
 
 sub-if3 : tie.Need-sub-if3
 sub-if3 c = search needs
@@ -58,7 +59,7 @@ slice-aggregate-result-3 c = search needs
 returns-3 : tie.Need-returns-3
 returns-3 c =
     let a = c .before .before .before .before .before .before .args in
-    past (a .text .now) (a .spans .now) (a .index) (c .before .before .before .before .before .if1 .left) (omega (arith, c .before .if3 .taken))
+    sym (part-past (a .text .now) (a .spans .now) (a .index) (c .before .before .before .before .before .if1 .left) (omega (arith, c .before .if3 .taken)))
 
 add-end : tie.Need-add-end
 add-end c = search needs
@@ -81,7 +82,8 @@ returns-4 c =
     let start = getD (a .spans .now) (2 * a .index) 0 in
     let count = getD (a .spans .now) (2 * a .index + 1) 0 in
     let e : start + count - start ≡ count = omega arith in
-    ap (λ (k : ℕ). take k (drop start (a .text .now))) e ∙ there (a .text .now) (a .spans .now) (a .index) (c .before .before .before .before .before .if1 .left) (omega (arith, c .before .if3 .left))
+    let inside : start + count ≤ length (a .text .now) = omega (arith, c .before .if3 .left) in
+    ap (λ (k : ℕ). take k (drop start (a .text .now))) e ∙ sym (part-named (a .text .now) (a .spans .now) (a .index) (c .before .before .before .before .before .if1 .left) (record { inside = inside; named = refl }))
 
 pub argument-spec : {M : Type 1} → statement M
 argument-spec =
