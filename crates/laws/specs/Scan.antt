@@ -1,15 +1,16 @@
 -- Runs of units that pass a test, at the front and at the end of a list, met one unit after another. Assumes nothing.
-use Prim.Native.Nat.{ℕ, suc, _+_, _≤_, _<_, zero-le, compare·suc-suc}
+use Prim.Native.Nat.{ℕ, zero, suc, _+_, _-_, _≤_, min, _<_, zero-le, compare·suc-suc}
 use native.Mathlib.Numerals.{add-one}
 use native.Mathlib.Omega.{arith}
 use mathlib.Core.Path.{_≡_, refl, sym, _∙_}
 use borrow.Author.Tests.{lt-ltb}
-use mathlib.Core.Bool.{Bool, true, false}
+use mathlib.Core.Bool.{Bool, true, false, _&&_}
 use mathlib.Core.List.{List, [], _∷_, _++_}
-use lib.Dec.{ltb}
+use lib.Dec.{ltb, eqb}
 use lib.ListN.{length, getD, take, drop, drop-of-length-le}
 use lib.Seq.{drop-cons, take-suc, take-length}
-use Rattle.rules.specs.Choice.{pick, either, flip, any}
+use Rattle.laws.specs.Store.{part-is}
+use Rattle.rules.specs.Choice.{pick, either, both, flip, any}
 
 -- how many elements at the front pass the test
 unfoldable pub leading : (ℕ → Bool) → List ℕ → ℕ
@@ -19,6 +20,10 @@ leading p (x ∷ xs) = pick (p x) (suc (leading p xs)) 0
 -- the index of the first element that passes the test, or the length where none does
 abbrev pub before : (ℕ → Bool) → List ℕ → ℕ
 before p xs = leading (λ x. flip (p x)) xs
+
+-- the unit is one of four
+abbrev pub isOneOf : ℕ → ℕ → ℕ → ℕ → ℕ → Bool
+isOneOf a b c d x = either (either (eqb x a) (eqb x b)) (either (eqb x c) (eqb x d))
 
 -- how many elements at the end pass the test, where k before them do
 unfoldable pub trailingFrom : (ℕ → Bool) → ℕ → List ℕ → ℕ
@@ -77,6 +82,57 @@ leading-in p (x ∷ xs) = go (p x) (leading-in p xs)
     go true h = omega arith
     go false h = omega arith
 
+-- ---- eight at once
+
+-- the eight elements from a place on pass the test
+abbrev pub eight : (ℕ → Bool) → List ℕ → ℕ → Bool
+eight p xs i =
+    both (both (both (both (both (both (both (p (getD xs i 0)) (p (getD xs (i + 1) 0))) (p (getD xs (i + 2) 0))) (p (getD xs (i + 3) 0)))
+    (p (getD xs (i + 4) 0))) (p (getD xs (i + 5) 0))) (p (getD xs (i + 6) 0))) (p (getD xs (i + 7) 0))
+
+-- eight tests made in a row, as the code joins them
+pub eight-is : (p : ℕ → Bool) (xs : List ℕ) (i : ℕ) {a b c d e f g h : Bool} → a ≡ p (getD xs i 0) → b ≡ p (getD xs (i + 1) 0) → c ≡ p (getD xs (i + 2) 0)
+    → d ≡ p (getD xs (i + 3) 0) → e ≡ p (getD xs (i + 4) 0) → f ≡ p (getD xs (i + 5) 0) → g ≡ p (getD xs (i + 6) 0) → h ≡ p (getD xs (i + 7) 0)
+    → a && b && c && d && e && f && g && h ≡ eight p xs i
+eight-is p xs i ea eb ec ed ee ef eg eh = rw (ea, eb, ec, ed, ee, ef, eg, eh)
+
+-- where two tests together hold, each does
+both-hold : (a b : Bool) → both a b ≡ true → (a ≡ true) × (b ≡ true)
+both-hold true b h = (refl, h)
+both-hold false b h = (h, cc)
+
+module _ (p : ℕ → Bool) (xs : List ℕ) where
+  next : (i j k : ℕ) → j + 1 ≡ k → Passed p xs (i + j) → i + j < length xs → p (getD xs (i + j) 0) ≡ true → Passed p xs (i + k)
+  next i j k s h l e = let n : i + j + 1 ≡ i + k = omega arith in rw n at (one-more p xs (i + j) h l e)
+
+  -- eight that pass
+  pub eight-more : (i : ℕ) → Passed p xs i → i + 8 ≤ length xs → eight p xs i ≡ true → Passed p xs (i + 8)
+  eight-more i h l e =
+      let (e₇, p₇) = both-hold _ _ e in
+      let (e₆, p₆) = both-hold _ _ e₇ in
+      let (e₅, p₅) = both-hold _ _ e₆ in
+      let (e₄, p₄) = both-hold _ _ e₅ in
+      let (e₃, p₃) = both-hold _ _ e₄ in
+      let (e₂, p₂) = both-hold _ _ e₃ in
+      let (p₀, p₁) = both-hold _ _ e₂ in
+      let h₁ = one-more p xs i h (omega arith) p₀ in
+      let h₂ = next i 1 2 refl h₁ (omega arith) p₁ in
+      let h₃ = next i 2 3 refl h₂ (omega arith) p₂ in
+      let h₄ = next i 3 4 refl h₃ (omega arith) p₃ in
+      let h₅ = next i 4 5 refl h₄ (omega arith) p₄ in
+      let h₆ = next i 5 6 refl h₅ (omega arith) p₅ in
+      let h₇ = next i 6 7 refl h₆ (omega arith) p₆ in
+      next i 7 8 refl h₇ (omega arith) p₇
+
+  -- what is left is the run of the rest, lent as a part
+  pub rest-passed : (i : ℕ) {r : ℕ} → Passed p xs i → r ≡ leading p (take (length xs - i) (drop i xs)) → i + r ≡ leading p xs
+  unfolding Passed
+  rest-passed i h e = omega (arith, h .1, rw part-is at e)
+
+  -- and it ends within the list
+  pub rest-within : (i : ℕ) {r : ℕ} → Passed p xs i → r ≡ leading p (take (length xs - i) (drop i xs)) → i + r ≤ length xs
+  rest-within i h e = rw (rest-passed i h e) (leading-in p xs)
+
 -- an element passes the test exactly if the first such is before the end
 pub any-before : (p : ℕ → Bool) (xs : List ℕ) → any p xs ≡ ltb (before p xs) (length xs)
 unfolding leading
@@ -86,6 +142,49 @@ any-before p (x ∷ xs) = go (p x) (any-before p xs)
     go : (b : Bool) → any p xs ≡ ltb (before p xs) (length xs) → either b (any p xs) ≡ ltb (pick (flip b) (suc (before p xs)) 0) (suc (length xs))
     go true h = sym (lt-ltb 0 (suc (length xs)) (omega arith))
     go false h = rw compare·suc-suc h
+
+-- ---- a front of the list
+
+-- the run of a front is that of the list, cut where the front ends
+pub leading-front : (p : ℕ → Bool) (n : ℕ) (xs : List ℕ) → leading p (take n xs) ≡ min n (leading p xs)
+unfolding leading
+leading-front p zero xs = omega arith
+leading-front p (suc n) [] = omega arith
+leading-front p (suc n) (x ∷ xs) = go (p x) (leading-front p n xs)
+  where
+    go : (b : Bool) → leading p (take n xs) ≡ min n (leading p xs) → pick b (suc (leading p (take n xs))) 0 ≡ min (suc n) (pick b (suc (leading p xs)) 0)
+    go true h = omega arith
+    go false h = omega arith
+
+-- a front that all pass is passed
+pub front-passed : (p : ℕ → Bool) (n : ℕ) (xs : List ℕ) → n ≤ leading p xs → Passed p xs n
+unfolding Passed leading
+front-passed p zero xs h = (zero-le, omega arith)
+front-passed p (suc n) [] h = absurd (omega arith)
+front-passed p (suc n) (x ∷ xs) h = go (p x) h (λ g. front-passed p n xs g)
+  where
+    go : (b : Bool) → suc n ≤ pick b (suc (leading p xs)) 0 → (n ≤ leading p xs → (n ≤ length xs) × (leading p xs ≡ n + leading p (drop n xs)))
+        → (suc n ≤ suc (length xs)) × (pick b (suc (leading p xs)) 0 ≡ suc n + leading p (drop n xs))
+    go true g ih = let (l, e) = ih (omega arith) in (omega arith, omega arith)
+    go false g ih = absurd (omega arith)
+
+-- tests that agree on every element find runs of one length
+pub leading-same : (p q : ℕ → Bool) → ((x : ℕ) → p x ≡ q x) → (xs : List ℕ) → leading p xs ≡ leading q xs
+unfolding leading
+leading-same p q h [] = refl
+leading-same p q h (x ∷ xs) = rw (h x, leading-same p q h xs)
+
+twice : (a : Bool) → either a a ≡ a
+twice true = refl
+twice false = refl
+
+-- two units looked for, each named twice
+pub before-two : (a b : ℕ) (xs : List ℕ) → before (isOneOf a b a b) xs ≡ before (λ x. either (eqb x a) (eqb x b)) xs
+before-two a b xs = leading-same _ _ (λ x. rw (twice (either (eqb x a) (eqb x b)))) xs
+
+-- one unit looked for, named four times
+pub before-one : (a : ℕ) (xs : List ℕ) → before (isOneOf a a a a) xs ≡ before (λ x. eqb x a) xs
+before-one a xs = before-two a a xs ∙ leading-same _ _ (λ x. rw (twice (eqb x a))) xs
 
 -- whether the place of the first that passes is before the end says whether there is one
 pub found-any : (p : ℕ → Bool) (xs : List ℕ) {i : ℕ} → i ≡ before p xs → ltb i (length xs) ≡ any p xs

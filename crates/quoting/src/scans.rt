@@ -1,6 +1,5 @@
 // Scans over an argument's units. Each is a leaf with a final contract, so that it can be made faster with nothing above it changed.
 ghost use mathlib.Core.Path.{_≡_};
-ghost use mathlib.Core.Bool.{true};
 ghost use Rattle.rules.specs.Unit.{isBackslash};
 ghost use Rattle.rules.specs.Batch.{endsInBackslash};
 ghost use Rattle.laws.specs.Scan.{before, trailing};
@@ -32,36 +31,12 @@ pub fn ends_in_backslash(units: &[u16]) -> bool
     units[units.len() - 1] == 92
 }
 
-// Whether a unit is a quote mark or a percent.
-fn is_quote_or_percent(unit: u16) -> bool
-    ensures { λ r. ⌜ r ≡ isMark true unit ⌝ }
-{
-    if unit == 34 {
-        return true;
-    }
-    unit == 37
-}
-
-// The index of the first quote mark or percent, or the length where there is none.
-pub fn find_quote_or_percent(units: &[u16]) -> usize
-    ensures { λ r. ⌜ r ≡ before (isMark true) (now (units .entry)) ⌝ }
-{
-    let mut i = 0;
-    while i < units.len() {
-        if is_quote_or_percent(units[i]) {
-            return i;
-        }
-        i += 1;
-    }
-    i
-}
-
 // The index of the first unit that is replaced, or the length where there is none.
 pub fn find_mark(units: &[u16], batch: bool) -> usize
     ensures { λ r. ⌜ r ≡ before (isMark batch) (now (units .entry)) ⌝ }
 {
     if batch {
-        return find_quote_or_percent(units);
+        return scans::find_any(units, 34, 37, 34, 37);
     }
     scans::find_quote(units)
 }

@@ -1,2 +1,3 @@
 pub mod Clip
 pub mod Table
+pub mod None
