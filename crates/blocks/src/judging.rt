@@ -8,6 +8,7 @@ ghost use Rattle.rules.specs.Block.{entryNulFinding};
 ghost use Rattle.blocks.specs.Entries.{ruled, isOutside, hasNul, placed};
 use crate::records;
 use crate::records::EntryRecord;
+use units::parts;
 use units::scans;
 
 // Whether start plus length exceeds a text's length. Both are widened first, so that their sum cannot wrap.
@@ -50,11 +51,11 @@ pub fn first_outside(records: &[u32], text: &[u16]) -> usize
 fn has_nul(text: &[u16], entry: EntryRecord) -> bool
     ensures { λ r. ⌜ r ≡ hasNul (entryOf (now (text .entry)) (ruled entry)) ⌝ }
 {
-    let key = records::part_of(text, entry.key_start, entry.key_len);
+    let key = parts::part_of(text, entry.key_start, entry.key_len);
     if scans::has_nul(key) {
         return true;
     }
-    let value = records::part_of(text, entry.value_start, entry.value_len);
+    let value = parts::part_of(text, entry.value_start, entry.value_len);
     scans::has_nul(value)
 }
 

@@ -6,6 +6,7 @@ ghost use Rattle.rules.specs.Block.{blockLimit, entryUnits, block};
 ghost use Rattle.blocks.specs.Entries.{ruled, oneEntry, Counted, Written};
 use crate::records;
 use crate::records::EntryRecord;
+use units::parts;
 use units::stores::copy_run;
 use units::stores::put;
 
@@ -17,11 +18,11 @@ fn put_entry(out: &mut [u16], at: usize, text: &[u16], entry: EntryRecord) -> us
     requires { ⌜ at ≤ blockLimit ⌝ }
     ensures { λ r. ⌜ Written at (oneEntry (entryOf (now (text .entry)) (ruled entry))) (now (out .entry)) (now (out .exit)) r ⌝ }
 {
-    let key = records::part_of(text, entry.key_start, entry.key_len);
+    let key = parts::part_of(text, entry.key_start, entry.key_len);
     copy_run(out, at, key);
     let mark = at + key.len();
     put(out, mark, 61);
-    let value = records::part_of(text, entry.value_start, entry.value_len);
+    let value = parts::part_of(text, entry.value_start, entry.value_len);
     let start = mark + 1;
     copy_run(out, start, value);
     let last = start + value.len();

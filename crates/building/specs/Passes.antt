@@ -1,6 +1,6 @@
 -- The passes over the records of a line: what one record makes of the answer so far and of the output, and what all of them do. Assumes nothing.
 -- The answer so far is a `Built`: the units counted, or a refusal, which stays.
-use Prim.Native.Nat.{ℕ, _+_, _/_, _%_, _^_, _<_, min}
+use Prim.Native.Nat.{ℕ, _+_, _/_, _%_, min}
 use mathlib.Core.Path.{_≡_}
 use mathlib.Core.Bool.{Bool, true, false}
 use mathlib.Core.List.{List, [], _∷_}
@@ -14,7 +14,7 @@ use Rattle.rules.specs.declared.Built.{Built}
 use Rattle.rules.specs.declared.Built.the-variants.{Line, Refused}
 use Rattle.rules.specs.Choice.{pick, either, both, any}
 use Rattle.rules.specs.Unit.{isNul, isLineBreak, space}
-use Rattle.rules.specs.Record.{Argument, argumentOf, part, isRegular, isNoKind, exceeds, argumentRecords, wholes}
+use Rattle.rules.specs.Record.{Argument, argumentOf, isRegular, isNoKind, exceeds, argumentRecords, wholes}
 use Rattle.rules.specs.Quoting.{form}
 use Rattle.rules.specs.Batch.{batchForm}
 use Rattle.rules.specs.Building.{lineLimit, written}
@@ -53,11 +53,6 @@ pub record Added (run : List ℕ) (units count : ℕ) (before after : List ℕ) 
 -- the record of three numbers from a place on
 abbrev pub recordAt : List ℕ → ℕ → Arg
 recordAt flat at = record { kind = getD flat at 0; start = getD flat (at + 1) 0; len = getD flat (at + 2) 0 }
-
--- the units that a record names: its length is a `u32`, so there are fewer than 2^32
-pub record Named (text : List ℕ) (a : Arg) (units : List ℕ) : Type 0 where
-  pub names : units ≡ part text (a .start) (a .len)
-  pub short : length units < 2 ^ 32
 
 -- the record pass: refused by 1 where the kind is none or the part exceeds the text
 abbrev pub recordJudged : List ℕ → ℕ → ℕ → Arg → Built

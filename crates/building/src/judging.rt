@@ -2,10 +2,10 @@
 ghost use mathlib.Core.Path.{_≡_};
 ghost use Rattle.rules.specs.Record.{argumentOf};
 ghost use Rattle.building.specs.Passes.{recordJudged, breaksLine, unitsJudged, cutJudged};
-use crate::records;
 use rules::Arg;
 use rules::Built;
 use rules::Refusal;
+use units::parts;
 use units::scans;
 
 // 1: a kind that is none, or a part that exceeds the text. Start and length are widened first, so their sum cannot wrap.
@@ -39,7 +39,7 @@ fn breaks_line(batch: bool, kind: u32, content: &[u16]) -> bool
 pub fn judge_units(batch: bool, text: &[u16], units: usize, place: usize, arg: Arg) -> Built
     ensures { λ r. ⌜ r ≡ unitsJudged batch units place (argumentOf (now (text .entry)) arg) ⌝ }
 {
-    let content = records::part_of(text, arg);
+    let content = parts::part_of(text, arg.start, arg.len);
     if breaks_line(batch, arg.kind, content) {
         return Built::Refused(Refusal::LineBreak(place));
     }

@@ -7,8 +7,8 @@ ghost use Rattle.rules.specs.Building.{written};
 ghost use Rattle.units.specs.Table.{classTable};
 ghost use Rattle.quoting.specs.Appended.{Appended};
 ghost use Rattle.building.specs.Passes.{counted, Added, ruleOf, piece};
-use crate::records;
 use rules::Arg;
+use units::parts;
 use units::stores;
 
 // The most units of a line that is built.
@@ -61,10 +61,10 @@ pub fn add_argument(
     if LINE_LIMIT < units {
         return LINE_LIMIT + 1;
     }
-    let content = records::part_of(text, arg);
+    let content = parts::part_of(text, arg.start, arg.len);
     stores::put(out, units, 32);
     let to = units + 1;
-    let from = records::smaller(to, out.len());
+    let from = parts::smaller(to, out.len());
     let n = append_form(
         classes,
         &mut out[from..],

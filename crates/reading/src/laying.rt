@@ -1,7 +1,7 @@
 // The arguments of a line laid out: their texts one after another, start and length of each in the span table. Lent empty parts, it measures.
 ghost use mathlib.Core.Path.{_≡_};
 ghost use mathlib.Core.List.{[], _∷_};
-ghost use Prim.Native.Nat.{min, _+_, _*_, _≤_, _<_};
+ghost use Prim.Native.Nat.{_+_, _*_, _≤_, _<_};
 ghost use lib.ListN.{length, drop};
 ghost use lib.Seq.{sets};
 ghost use Rattle.rules.specs.Unit.{isBlank};
@@ -10,6 +10,7 @@ ghost use Rattle.laws.specs.Scan.{leading};
 ghost use Rattle.reading.specs.Part.{Laid, lineArguments};
 use super::one::read_first;
 use super::one::read_later;
+use units::parts::smaller;
 use units::scans::blanks;
 use units::stores::copy_run;
 use units::stores::put_number;
@@ -35,16 +36,6 @@ pub fn skip_blanks(line: &[u16], i: usize) -> usize
     ensures { λ r. ⌜ (r ≡ i + leading isBlank (drop i (now (line .entry)))) × (r ≤ length (now (line .entry))) ⌝ }
 {
     i + blanks(&line[i..])
-}
-
-// The smaller of two numbers.
-pub fn smaller(a: usize, b: usize) -> usize
-    ensures { λ r. ⌜ r ≡ min a b ⌝ }
-{
-    if a < b {
-        return a;
-    }
-    b
 }
 
 // Lays out the arguments of a line that is not empty, as far as there is room. Each later one is written into the unused rest of the text.

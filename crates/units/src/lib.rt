@@ -1,5 +1,6 @@
-// Units: their classes, scans over lent units, stores into lent units, and a refusal's number and place.
+// Units: their classes, parts of a lent text, scans over lent units, stores into lent units, and a refusal's number and place.
 pub mod classes;
+pub mod parts;
 pub mod refusals;
 pub mod scans;
 pub mod stores;

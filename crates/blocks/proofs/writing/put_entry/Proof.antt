@@ -62,7 +62,7 @@ returns c =
     let copied = c .before .before .before .before .before .before .before .before .before .before .before .before .before .before .before .copy-run in
     let marked = c .before .before .before .before .before .before .before .before .before .before .before .put in
     let value = c .before .before .before .before .before .before .before .before .part-of2 in
-    entry-written (entryOf (a .text .now) (ruled (a .entry))) (a .at) (key .ensures) (value .ensures) (copied .ensures) (marked .ensures) (c .before .before .before .before .before .before .copy-run2 .ensures) (c .before .before .put2 .ensures)
+    entry-written (entryOf (a .text .now) (ruled (a .entry))) (a .at) (key .ensures .names) (value .ensures .names) (copied .ensures) (marked .ensures) (c .before .before .before .before .before .before .copy-run2 .ensures) (c .before .before .put2 .ensures)
 
 pub put-entry-spec : {M : Type 1} → statement M
 put-entry-spec =

@@ -1,19 +1,13 @@
--- `building::records::part_of` meets its contract. Assumes nothing.
+-- `units::parts::part_of` meets its contract. Assumes nothing.
 use borrow.Author.Needs.{needs}
-use Rattle.laws.specs.Parts.{clipped}
 use native.Mathlib.Omega.{arith}
 use lib.ListN.{drop, length-take}
-use Rattle.building.proofs.records.part_of.Statement.{statement}
-use Rattle.building.proofs.records.part_of.Tie as tie
-
-cast-smaller : tie.Need-cast-smaller
-cast-smaller c = search needs
+use Rattle.laws.specs.Parts.{clipped}
+use Rattle.units.proofs.parts.part_of.Statement.{statement}
+use Rattle.units.proofs.parts.part_of.Tie as tie
 
 smaller-requires : tie.Need-smaller-requires
 smaller-requires c κs = search needs
-
-cast-smaller-2 : tie.Need-cast-smaller-2
-cast-smaller-2 c = search needs
 
 sub-smaller : tie.Need-sub-smaller
 sub-smaller c = search needs
@@ -38,17 +32,15 @@ part-result-end c = search needs
 
 returns : tie.Need-returns
 returns c =
-    let a = c .before .before .before .before .before .before .args in
-    let e = clipped (a .text .now) (a .arg .start) (a .arg .len) (c .before .before .before .smaller .result) (c .before .smaller2 .result) (c .before .before .before .smaller .ensures) (c .before .smaller2 .ensures) in
-    record { names = e; short = rw e (omega (arith, length-take (a .arg .len) (drop (a .arg .start) (a .text .now)), c .before .before .struct-known2 .given)) }
+    let a = c .before .before .before .before .args in
+    let e = clipped (a .text .now) (a .start) (a .len) (c .before .before .smaller .result) (c .before .smaller2 .result) (c .before .before .smaller .ensures) (c .before .smaller2 .ensures) in
+    record { names = e; short = rw e (omega (arith, length-take (a .len) (drop (a .start) (a .text .now)), c .before .before .before .before .fits .len)) }
 
 pub part-of-spec : {M : Type 1} → statement M
 part-of-spec =
     tie.close
     (tie.spec
-    cast-smaller
     smaller-requires
-    cast-smaller-2
     sub-smaller
     smaller-requires-2
     add-to
