@@ -37,3 +37,8 @@ any-front test (x ∷ xs) ys h = go (test x) (any-front test xs ys) h
     go : (b : Bool) → (any test xs ≡ true → any test (xs ++ ys) ≡ true) → either b (any test xs) ≡ true → either b (any test (xs ++ ys)) ≡ true
     go true ih h = refl
     go false ih h = ih h
+
+-- where two tests together hold, each does
+pub both-true : (a b : Bool) → both a b ≡ true → (a ≡ true) × (b ≡ true)
+both-true true b h = (refl, h)
+both-true false b h = (h, cc)

@@ -9,6 +9,7 @@ use mathlib.Core.List.{List, [], _∷_, _++_}
 use lib.Dec.{ltb, eqb}
 use lib.ListN.{length, getD, take, drop, drop-of-length-le}
 use lib.Seq.{drop-cons, take-suc, take-length}
+use Rattle.laws.specs.Choice.{both-true}
 use Rattle.laws.specs.Store.{part-is}
 use Rattle.rules.specs.Choice.{pick, either, both, flip, any}
 
@@ -96,11 +97,6 @@ pub eight-is : (p : ℕ → Bool) (xs : List ℕ) (i : ℕ) {a b c d e f g h : B
     → a && b && c && d && e && f && g && h ≡ eight p xs i
 eight-is p xs i ea eb ec ed ee ef eg eh = rw (ea, eb, ec, ed, ee, ef, eg, eh)
 
--- where two tests together hold, each does
-both-hold : (a b : Bool) → both a b ≡ true → (a ≡ true) × (b ≡ true)
-both-hold true b h = (refl, h)
-both-hold false b h = (h, cc)
-
 module _ (p : ℕ → Bool) (xs : List ℕ) where
   next : (i j k : ℕ) → j + 1 ≡ k → Passed p xs (i + j) → i + j < length xs → p (getD xs (i + j) 0) ≡ true → Passed p xs (i + k)
   next i j k s h l e = let n : i + j + 1 ≡ i + k = omega arith in rw n at (one-more p xs (i + j) h l e)
@@ -108,13 +104,13 @@ module _ (p : ℕ → Bool) (xs : List ℕ) where
   -- eight that pass
   pub eight-more : (i : ℕ) → Passed p xs i → i + 8 ≤ length xs → eight p xs i ≡ true → Passed p xs (i + 8)
   eight-more i h l e =
-      let (e₇, p₇) = both-hold _ _ e in
-      let (e₆, p₆) = both-hold _ _ e₇ in
-      let (e₅, p₅) = both-hold _ _ e₆ in
-      let (e₄, p₄) = both-hold _ _ e₅ in
-      let (e₃, p₃) = both-hold _ _ e₄ in
-      let (e₂, p₂) = both-hold _ _ e₃ in
-      let (p₀, p₁) = both-hold _ _ e₂ in
+      let (e₇, p₇) = both-true _ _ e in
+      let (e₆, p₆) = both-true _ _ e₇ in
+      let (e₅, p₅) = both-true _ _ e₆ in
+      let (e₄, p₄) = both-true _ _ e₅ in
+      let (e₃, p₃) = both-true _ _ e₄ in
+      let (e₂, p₂) = both-true _ _ e₃ in
+      let (p₀, p₁) = both-true _ _ e₂ in
       let h₁ = one-more p xs i h (omega arith) p₀ in
       let h₂ = next i 1 2 refl h₁ (omega arith) p₁ in
       let h₃ = next i 2 3 refl h₂ (omega arith) p₂ in

@@ -19,7 +19,8 @@ use Rattle.original.specs.Wtf8.{is-high, is-low, pair, code-points, as-e
 use Rattle.original.specs.AppendBatArg.{is-ascii, is-ascii-alphanumeric, is-control, UNQUOTED, for-code-points, for-bat-units, append-bat-arg}
 use Rattle.original.specs.Domain.{rust-says, finding-says}
 use Rattle.original.specs.Loops.{ensured-says}
-use Rattle.original.specs.Laws.{both-true, within-least, either-false, slashes-push, slashes-twice, closed, at-end, appended}
+use Rattle.laws.specs.Choice.{both-true}
+use Rattle.original.specs.Laws.{within-least, either-false, slashes-push, slashes-twice, closed, at-end, appended}
 use Rattle.original.specs.Wtf8Laws.{last-bytes}
 
 -- ---- the decision on quotes

@@ -15,7 +15,7 @@ use Rattle.original.specs.MakeEnvp.{Ordering, Less, Equal, Greater, Comp
 use Rattle.original.specs.Domain.{rust-says, port-says, in-domain, finding-says, fault-says}
 use Rattle.original.specs.DomainLaws.{unless-says, entries-sound}
 use Rattle.original.specs.Loops.{says-then, Loop, loop-says}
-use Rattle.original.specs.Laws.{both-true}
+use Rattle.laws.specs.Choice.{both-true}
 
 -- ---- what the map yields
 

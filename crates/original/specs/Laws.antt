@@ -7,6 +7,7 @@ use mathlib.Core.Bool.{Bool, true, false}
 use mathlib.Core.List.{List, [], _∷_, _++_, append-assoc}
 use lib.Dec.{leb}
 use lib.ListN.{replicate-append-replicate}
+use Rattle.laws.specs.Choice.{both-true}
 use Rattle.rules.specs.Choice.{pick, either, both}
 use Rattle.rules.specs.Unit.{within, backslash, quote}
 use Rattle.rules.specs.Quoting.{slashes, enclosed}
@@ -29,11 +30,6 @@ either-comm true true = refl
 either-comm true false = refl
 either-comm false true = refl
 either-comm false false = refl
-
--- what two tests together say
-pub both-true : (a b : Bool) → both a b ≡ true → (a ≡ true) × (b ≡ true)
-both-true true b h = (refl, h)
-both-true false b h = (h, cc)
 
 -- what is within two bounds is at least the first
 pub within-least : (a b x : ℕ) → within a b x ≡ true → a ≤ x

@@ -8,7 +8,8 @@ use mathlib.Core.List.{List, [], _∷_, _++_}
 use lib.Dec.{ltb, eqb}
 use Rattle.rules.specs.Choice.{pick, either, both, any, isEmpty}
 use Rattle.rules.specs.Batch.{endsInBackslash}
-use Rattle.original.specs.Laws.{both-true, within-least}
+use Rattle.laws.specs.Choice.{both-true}
+use Rattle.original.specs.Laws.{within-least}
 use Rattle.original.specs.Shims.{_==Some_, last}
 use Rattle.original.specs.Wtf8.{is-high, is-low, pair, code-points, encoded, bytes, as-encoded-bytes}
 

@@ -2,23 +2,26 @@
 use mathlib.Core.Path.{_≡_, refl, ap, _∙_}
 use mathlib.Core.Bool.{Bool, true, false}
 use mathlib.Core.List.{List, [], _∷_, _++_, append-nil}
-use Prim.Native.Nat.{ℕ, zero, suc, _*_, _/_, _≤_, _<_}
+use Prim.Native.Nat.{ℕ, zero, suc, _+_, _*_, _/_, _≤_, _<_}
 use native.Mathlib.Omega.{arith}
 use lib.ListN.{length, take}
 use lib.Seq.{sets, length-take-le}
-use lib.Dec.{eqb, eqb·suc-zero}
-use borrow.Author.Tests.{lt-ltb, le-ltb}
+use lib.Dec.{eqb, eqb·suc-zero, leb}
+use borrow.Author.Tests.{lt-ltb, le-ltb, leb-true}
 use Rattle.rules.specs.declared.Parsed.{Parsed}
 use Rattle.rules.specs.declared.Parsed.the-variants as Parsed
 use Rattle.rules.specs.Choice.{pick, flip, isEmpty}
 use Rattle.rules.specs.Unit.{isNul}
 use Rattle.rules.specs.Outcome.{Outcome, done, refused}
-use Rattle.rules.specs.Reading.{lineOf, arguments, argumentsRead, unitsRead, readLimit, joined, spansOf, reading}
+use Rattle.rules.specs.Reading.{lineOf, arguments, argumentsRead, unitsRead, readLimit, joined, spansOf, placesOf, reading}
 use Rattle.rules.specs.Answer.{refusal, parsedSaid, Read}
 use Rattle.laws.specs.Scan.{leading, before, leading-in}
+use Rattle.laws.specs.Choice.{both-true}
+use Rattle.laws.specs.Extent.{read-extent}
 use Rattle.laws.specs.Span.{spans-length}
 use Rattle.laws.specs.Store.{sets-out, sets-front}
 use Rattle.reading.specs.Part.{Laid, lineArguments}
+use Rattle.reading.specs.House.{Housed, housed, sure}
 
 -- ---- the line
 
@@ -87,28 +90,39 @@ spans-kept {args} d r = rw (r .tabulates, sets-out [] 0 (spansOf args) (omega ar
 
 -- ---- the outcome
 
-module _ (executable xs : List ℕ) (room numbers : ℕ) where
-  -- 2
-  pub too-long : readLimit < length (unitsRead executable xs) → reading executable xs room numbers ≡ refused 2 0
-  unfolding reading
-  too-long h = rw (lt-ltb _ _ h)
+-- 2
+pub too-long : (executable xs : List ℕ) (room numbers : ℕ) → readLimit < length (unitsRead executable xs) → reading executable xs room numbers ≡ refused 2 0
+unfolding reading
+too-long executable xs room numbers h = rw (lt-ltb _ _ h)
 
-  module _ (fits : length (unitsRead executable xs) ≤ readLimit) where
-    -- 3
-    pub no-places : numbers / 2 < length (argumentsRead executable xs) → reading executable xs room numbers ≡ refused 3 0
-    unfolding reading
-    no-places h = rw (le-ltb _ _ fits, lt-ltb _ _ h)
+-- behind it: 3, 4 or the arguments, which are those of the part before the first NUL
+pub behind-limit : (executable xs : List ℕ) (n : ℕ) → n ≡ before isNul xs → (room numbers : ℕ) → length (unitsRead executable xs) ≤ readLimit
+    → housed (lineArguments (take n xs) executable) room numbers ≡ reading executable xs room numbers
+unfolding reading
+behind-limit executable xs n e room numbers h = rw (le-ltb readLimit (length (unitsRead executable xs)) h, arguments-are executable xs n e)
 
-    module _ (places : length (argumentsRead executable xs) ≤ numbers / 2) where
-      -- 4
-      pub no-room : room < length (joined (argumentsRead executable xs)) → reading executable xs room numbers ≡ refused 4 0
-      unfolding reading
-      no-room h = rw (le-ltb _ _ fits, le-ltb _ _ places, lt-ltb _ _ h)
+-- where they surely fit, output and table have room for them
+pub sure-housed : (executable xs : List ℕ) (n : ℕ) → n ≡ before isNul xs → (room numbers : ℕ) → sure (length (unitsRead executable xs)) room numbers ≡ true
+    → Housed (lineArguments (take n xs) executable) room numbers
+sure-housed executable xs n e room numbers h =
+    let (fits, places) = both-true (leb (length (unitsRead executable xs)) room) (leb (length (unitsRead executable xs) + 2) numbers) h in
+    let x = read-extent executable xs in
+    let t = leb-true (length (unitsRead executable xs)) room fits in
+    let p = leb-true (length (unitsRead executable xs) + 2) numbers places in
+    rw (arguments-are executable xs n e) (record { places = omega arith; text = omega arith })
 
-      -- the arguments
-      pub all-read : length (joined (argumentsRead executable xs)) ≤ room → reading executable xs room numbers ≡ done (argumentsRead executable xs)
-      unfolding reading
-      all-read h = rw (le-ltb _ _ fits, le-ltb _ _ places, le-ltb _ _ h)
+module _ (args : List (List ℕ)) (room numbers : ℕ) where
+  -- 3
+  pub no-places : numbers / 2 < length args → housed args room numbers ≡ refused 3 0
+  no-places h = rw (lt-ltb _ _ h)
+
+  -- 4
+  pub no-room : length args ≤ numbers / 2 → room < length (joined args) → housed args room numbers ≡ refused 4 0
+  no-room p h = rw (le-ltb _ _ p, lt-ltb _ _ h)
+
+  -- the arguments
+  pub all-housed : Housed args room numbers → housed args room numbers ≡ done args
+  all-housed h = rw (le-ltb (placesOf numbers) (length args) (h .places), le-ltb room (length (joined args)) (h .text))
 
 -- a refusal that changes nothing
 pub refuses : {o : Outcome (List (List ℕ))} {r : Parsed} {number : ℕ} {text text′ spans spans′ : List ℕ} → o ≡ refused number 0 → parsedSaid r ≡ refusal number 0

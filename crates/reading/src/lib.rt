@@ -5,11 +5,14 @@ mod pieces;
 mod runs;
 
 ghost use mathlib.Core.Path.{_≡_};
+ghost use Prim.Native.Nat.{_≤_};
 ghost use lib.ListN.{length};
 ghost use lib.Dec.{eqb};
 ghost use Rattle.rules.specs.Choice.{pick};
-ghost use Rattle.rules.specs.Reading.{reading, argumentPart};
+ghost use Rattle.rules.specs.Reading.{readLimit, reading, argumentPart};
 ghost use Rattle.rules.specs.Answer.{Read};
+ghost use Rattle.reading.specs.Part.{lineArguments};
+ghost use Rattle.reading.specs.House.{Short, Housed, housed, sure};
 use laying::lay_line;
 use rules::Parsed;
 use rules::Refusal;
@@ -28,8 +31,47 @@ fn units_read(line: usize, exe_name: usize) -> usize
     line
 }
 
-// Reads a line by the C run-time rules (Rust: `parse_lp_cmd_line`). The first pass measures, so that every refusal is decided before
-// anything is stored; the second writes.
+// Whether room and table surely hold whatever so many units give: at most as many text units, and an argument for every two units and one more.
+fn surely_fits(units: usize, room: usize, numbers: usize) -> bool
+    requires { ⌜ units ≤ readLimit ⌝ }
+    ensures { λ r. ⌜ r ≡ sure units room numbers ⌝ }
+{
+    if units <= room {
+        return units + 2 <= numbers;
+    }
+    false
+}
+
+// Lays out arguments that surely fit: nothing can be refused any more, so nothing is measured before.
+fn read_at_once(line: &[u16], exe_name: &[u16], text: &mut [u16], spans: &mut [u32]) -> Parsed
+    requires { ⌜ Short (now line) (now «exe_name») × Housed (lineArguments (now line) (now «exe_name»)) (length (now text)) (length (now spans)) ⌝ }
+    ensures { λ r. ⌜ Read (housed (lineArguments (now (line .entry)) (now («exe_name» .entry))) (length (now (text .entry))) (length (now (spans .entry)))) r (now (text .entry)) (now (text .exit)) (now (spans .entry)) (now (spans .exit)) ⌝ }
+{
+    let laid = lay_line(line, exe_name, text, spans);
+    Parsed::Arguments {
+        count: laid.count,
+        units: laid.units,
+    }
+}
+
+// Measures first, so that every refusal is decided before anything is stored; then writes.
+fn read_measured(line: &[u16], exe_name: &[u16], text: &mut [u16], spans: &mut [u32]) -> Parsed
+    requires { ⌜ Short (now line) (now «exe_name») ⌝ }
+    ensures { λ r. ⌜ Read (housed (lineArguments (now (line .entry)) (now («exe_name» .entry))) (length (now (text .entry))) (length (now (spans .entry)))) r (now (text .entry)) (now (text .exit)) (now (spans .entry)) (now (spans .exit)) ⌝ }
+{
+    let places = spans.len() / 2;
+    let none = 0;
+    let need = lay_line(line, exe_name, &mut text[..none], &mut spans[..none]);
+    if places < need.count {
+        return Parsed::Refused(Refusal::Spans);
+    }
+    if text.len() < need.units {
+        return Parsed::Refused(Refusal::Room);
+    }
+    read_at_once(line, exe_name, text, spans)
+}
+
+// Reads a line by the C run-time rules (Rust: `parse_lp_cmd_line`).
 pub fn parse_lp_cmd_line(
     units: &[u16],
     exe_name: &[u16],
@@ -39,23 +81,14 @@ pub fn parse_lp_cmd_line(
     ensures { λ r. ⌜ Read (reading (now («exe_name» .entry)) (now (units .entry)) (length (now (text .entry))) (length (now (spans .entry)))) r (now (text .entry)) (now (text .exit)) (now (spans .entry)) (now (spans .exit)) ⌝ }
 {
     let n = find_nul(units);
-    if READ_LIMIT < units_read(n, exe_name.len()) {
+    let counted = units_read(n, exe_name.len());
+    if READ_LIMIT < counted {
         return Parsed::Refused(Refusal::Length);
     }
-    let line = &units[..n];
-    let places = spans.len() / 2;
-    let need = lay_line(line, exe_name, &mut text[..0], &mut spans[..0]);
-    if places < need.count {
-        return Parsed::Refused(Refusal::Spans);
+    if surely_fits(counted, text.len(), spans.len()) {
+        return read_at_once(&units[..n], exe_name, text, spans);
     }
-    if text.len() < need.units {
-        return Parsed::Refused(Refusal::Room);
-    }
-    let laid = lay_line(line, exe_name, text, spans);
-    Parsed::Arguments {
-        count: laid.count,
-        units: laid.units,
-    }
+    read_measured(&units[..n], exe_name, text, spans)
 }
 
 // The part of the caller's text that a span names; an empty part where the table has no such place or the span reaches past the text.
