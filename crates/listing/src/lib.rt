@@ -1,0 +1,2 @@
+// Command lines from a slice of records.
+pub mod works;
