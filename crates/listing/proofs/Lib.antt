@@ -1,1 +1,2 @@
 pub mod Onward
+pub mod Passing

@@ -1,2 +1,66 @@
-// Command lines from a slice of records.
+// Command lines from a slice of records: the entries over `&[Arg]`, whose answers are those of the flat entries on the records' numbers.
+ghost use lib.ListN.{length};
+ghost use Rattle.rules.specs.Answer.{Answered};
+ghost use Rattle.rules.specs.Building.{commandLine, batchCommandLine};
+ghost use Rattle.rules.specs.Record.{flatOf};
+ghost use Rattle.listing.specs.Either.{eitherLine};
+use rules::Arg;
+use rules::Built;
+use units::classes;
+
 pub mod works;
+
+// Builds a line of either kind. The one loop of this crate: each turn is a covered one, and hands on the state by value.
+fn make_line_of(
+    batch: bool,
+    lent: &[u16],
+    args: &[Arg],
+    text: &[u16],
+    force_quotes: bool,
+    out: &mut [u16],
+) -> Built
+    ensures { λ r. ⌜ Answered (eitherLine batch «force_quotes» (now (lent .entry)) (flatOf (now (args .entry))) (now (text .entry)) (length (now (out .entry)))) r (now (out .entry)) (now (out .exit)) ⌝ }
+{
+    let classes = classes::classes();
+    let table = &classes;
+    let mut work = works::begin(batch, force_quotes, args.len());
+    while work.going {
+        let at = work.at;
+        let mut arg = Arg {
+            kind: 0,
+            start: 0,
+            len: 0,
+        };
+        if at < args.len() {
+            arg = args[at];
+        }
+        work = works::turn(work, arg, table, lent, text, out);
+    }
+    work.answer
+}
+
+// Builds an ordinary command line from a slice of records. In the Rust: `make_command_line`.
+pub fn make_command_line_of(
+    program: &[u16],
+    args: &[Arg],
+    text: &[u16],
+    force_quotes: bool,
+    out: &mut [u16],
+) -> Built
+    ensures { λ r. ⌜ Answered (commandLine «force_quotes» (now (program .entry)) (flatOf (now (args .entry))) (now (text .entry)) (length (now (out .entry)))) r (now (out .entry)) (now (out .exit)) ⌝ }
+{
+    make_line_of(false, program, args, text, force_quotes, out)
+}
+
+// Builds the line that runs a batch script from a slice of records. In the Rust: `make_bat_command_line`.
+pub fn make_bat_command_line_of(
+    script: &[u16],
+    args: &[Arg],
+    text: &[u16],
+    force_quotes: bool,
+    out: &mut [u16],
+) -> Built
+    ensures { λ r. ⌜ Answered (batchCommandLine «force_quotes» (now (script .entry)) (flatOf (now (args .entry))) (now (text .entry)) (length (now (out .entry)))) r (now (out .entry)) (now (out .exit)) ⌝ }
+{
+    make_line_of(true, script, args, text, force_quotes, out)
+}
