@@ -64,3 +64,29 @@ pub fn make_bat_command_line_of(
 {
     make_line_of(true, script, args, text, force_quotes, out)
 }
+
+// Four records by value, lent to `make_command_line_of` as a slice: what a caller that has no slice of structs calls.
+pub fn make_command_line_of_four(
+    program: &[u16],
+    args: [Arg; 4],
+    text: &[u16],
+    force_quotes: bool,
+    out: &mut [u16],
+) -> Built
+    ensures { λ r. ⌜ Answered (commandLine «force_quotes» (now (program .entry)) (flatOf args) (now (text .entry)) (length (now (out .entry)))) r (now (out .entry)) (now (out .exit)) ⌝ }
+{
+    make_command_line_of(program, &args, text, force_quotes, out)
+}
+
+// Four records by value, lent to `make_bat_command_line_of` as a slice.
+pub fn make_bat_command_line_of_four(
+    script: &[u16],
+    args: [Arg; 4],
+    text: &[u16],
+    force_quotes: bool,
+    out: &mut [u16],
+) -> Built
+    ensures { λ r. ⌜ Answered (batchCommandLine «force_quotes» (now (script .entry)) (flatOf args) (now (text .entry)) (length (now (out .entry)))) r (now (out .entry)) (now (out .exit)) ⌝ }
+{
+    make_bat_command_line_of(script, &args, text, force_quotes, out)
+}
