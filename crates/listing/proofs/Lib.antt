@@ -1,3 +1,4 @@
 pub mod Onward
+pub mod Shapes
 pub mod Passing
 pub mod Lending
