@@ -80,12 +80,15 @@ lending callee = record {
       (seq (call callee (copy (place 1 []) ∷ copy (place 8 []) ∷ copy (place 3 []) ∷ copy (place 4 []) ∷ copy (place 10 []) ∷ []) (place 0 [])) return)))));
 }
 
+-- the machine values of an array of records
 abbrev vals : List Arg → List Val
 vals = array-vals (LL.vals T.the-type T′.the-laws)
 
+-- the array's place in the signature
 abbrev array-slot : Slot 3
 array-slot = ArrayOf (plain (λ _. T.the-row)) (λ _. tt) 4
 
+-- what the function still has of its parameters at exit
 abbrev stayed : Stays (four.ended .signature .params) (four.ended .kept)
 stayed = (
   stay-dropped (shrSliceOf (0 ∷ []) tt (plain (λ _. u16))) yes,
@@ -117,33 +120,43 @@ module _ {M : Type 1} (𝓤 : URA M) (H : Heap 𝓤) (A : Atoms 𝓤) (mem″ : 
 module _ {M : Type 1} (𝓤 : URA M) (H : Heap 𝓤) (A : Atoms 𝓤) (W : Given 𝓤 H A) (mem″ : Memory → SProp 𝓤) (run : Routine → Fun 𝓤) (batch : Bool)
     (κ₀ κ₁ κ₂ : Lft) (q₀ q₁ q₂ : Share) (lent : RefT (List ℕ)) (xs : List Arg) (text : RefT (List ℕ)) (force : Bool) (out : RefT (List ℕ))
     (g₀ : Room u16 (length (lent .now))) (is-array : Is R xs (vals xs)) (g₁ : Room u16 (length (text .now))) (g₂ : Room u16 (length (out .now))) where
+  -- the lifetimes
   abbrev Lives : Lft × (Lft × (Lft × Unit {0}))
   Lives = (κ₀, (κ₁, (κ₂, tt)))
 
+  -- the shares of their tokens
   abbrev Held : Share × (Share × (Share × Unit {0}))
   Held = (q₀, (q₁, (q₂, tt)))
 
+  -- the parameters
   abbrev Passed : RefT (List ℕ) × (List Arg × (RefT (List ℕ) × (Bool × (RefT (List ℕ) × Unit {0}))))
   Passed = (lent, (xs, (text, (force, (out, tt)))))
 
+  -- the machine value of the records
   abbrev mach : Val
   mach = arrayVal (map (λ (x : Arg). LL.val T.the-type T′.the-laws x) xs)
 
+  -- the parameters' machine values, as the contract has them
   abbrev Bound : Vals four.signature Lives
   Bound = (slice-vals lent, (mach ∷ [], (slice-vals text, (vbool force ∷ [], (slice-vals out, tt)))))
 
+  -- the same, as the function is called with them
   abbrev Vs : List Val
   Vs = sliceVal (lent .ptr) (length (lent .now)) ∷ mach ∷ sliceVal (text .ptr) (length (text .now)) ∷ vbool force ∷ sliceVal (out .ptr) (length (out .now)) ∷ []
 
+  -- what is to hold at exit
   abbrev Post : Val → SProp 𝓤
   Post = walkOf 𝓤 H A four.ended stayed (four-clauses 𝓤 H A mem″ run batch) .post ((Lives, Held, tt, Passed, Bound), tt)
 
+  -- the contract, of an answer and the last units of out
   abbrev Says : Built → List ℕ → Type 0
   Says r zs = Answered (eitherLine batch force (lent .now) (flatOf xs) (text .now) (length (out .now))) r (out .now) zs
 
+  -- the tokens
   abbrev Toks : Item 𝓤
   Toks = ‵ (flft κ₀ q₀) ⊛ ‵ (flft κ₁ q₁) ⊛ ‵ (flft κ₂ q₂) ⊛ ‵ ftrue
 
+  -- what lent owns
   abbrev OwnL : Fml
   OwnL = ShrSlice (named 0) κ₀ u16 .own lent (slice-vals lent)
 
@@ -151,9 +164,11 @@ module _ {M : Type 1} (𝓤 : URA M) (H : Heap 𝓤) (A : Atoms 𝓤) (W : Given
   abbrev Behind : Fml
   Behind = owns (ShrSlice (named 1) κ₁ u16 ∷ bool ∷ MutSlice (named 2) κ₂ u16 ∷ []) (text, (force, (out, tt))) (slice-vals text, (vbool force ∷ [], (slice-vals out, tt)))
 
+  -- there are four records
   len : length xs ≡ 4
   len = is-array .1 .0 .1
 
+  -- which have room in memory
   room : Room T.the-row (length xs)
   room = subst (Room T.the-row) (sym len) (lit< tt, lit< tt)
 
@@ -161,18 +176,22 @@ module _ {M : Type 1} (𝓤 : URA M) (H : Heap 𝓤) (A : Atoms 𝓤) (W : Given
   abbrev Row : ℕ → Fml
   Row l = arr-parts (shares T.the-row) (length xs) .part fullShare xs l 0
 
+  -- the slice of them under the name γ
   abbrev s : ℕ → GName → RefT (List Arg)
   s l γ = record { ptr = (l, 0); name = γ; now = xs }
 
+  -- what it owns
   abbrev OwnA : ℕ → ℕ → GName → Fml
   OwnA ν l γ = ShrSlice (named 1) (ν ∷ []) T.the-row .own (s l γ) (sliceVal (l, 0) (length xs) ∷ [])
 
+  -- the records in a local can be lent
   apart : (l : ℕ) → ent 𝓤 (⋆ 𝓤 H A (‵ (fat fullShare (arrayTy T.the-row 4) l 0 mach) ∷ ‵ (R .own xs (mach ∷ [])) ∷ [])) (sem 𝓤 H A (Row l))
   apart l =
       qed W (‵ (fat fullShare (arrayTy T.the-row 4) l 0 mach) ∷ ‵ (R .own xs (mach ∷ [])) ∷ []) ∵ use2 W (‵ (partAt R fullShare xs l 0)) (array-lies 𝓤 H A W T.the-row 4 l xs mach) $
       use1 W (‵ (arr-parts (shares T.the-row) 4 .part fullShare xs l 0)) (array-apart 𝓤 H A W T.the-row fullShare tt 4 xs l 0) $
       rewrite ! 0 (λ (m : ℕ). ‵ (arr-parts (shares T.the-row) m .part fullShare xs l 0)) (sym len) refl $ done !
 
+  -- and the local can be freed again
   back : (l : ℕ) → ent 𝓤 (sem 𝓤 H A (Row l)) (sem 𝓤 H A (froom (arrayTy T.the-row 4) l 0))
   back l =
       qed W (‵ (Row l) ∷ []) ∵ rewrite ! 0 (λ (m : ℕ). ‵ (arr-parts (shares T.the-row) m .part fullShare xs l 0)) len refl $
@@ -182,6 +201,7 @@ module _ {M : Type 1} (𝓤 : URA M) (H : Heap 𝓤) (A : Atoms 𝓤) (W : Given
   abbrev Sliced : ℕ → GName → RefT (List ℕ) × (RefT (List Arg) × (RefT (List ℕ) × (Bool × (RefT (List ℕ) × Unit {0}))))
   Sliced l γ = (lent, (s l γ, (text, (force, (out, tt)))))
 
+  -- all that the entry's triple binds outside
   abbrev to : ℕ → ℕ → GName → Entry 𝓤 H A mem″ run batch .Ghost
   to ν l γ = (
     (
@@ -194,20 +214,24 @@ module _ {M : Type 1} (𝓤 : URA M) (H : Heap 𝓤) (A : Atoms 𝓤) (W : Given
     tt,
   )
 
+  -- what the function has is what the entry asks
   goes : (ν l : ℕ) (γ : GName) → ent 𝓤 (⋆ 𝓤 H A (Toks ∷ ‵ (flft (ν ∷ []) fullShare) ∷ ‵ OwnL ∷ ‵ (OwnA ν l γ) ∷ ‵ Behind ∷ [])) (Entry 𝓤 H A mem″ run batch .pre (to ν l γ))
   goes ν l γ =
       qed W (Toks ∷ ‵ (flft (ν ∷ []) fullShare) ∷ ‵ OwnL ∷ ‵ (OwnA ν l γ) ∷ ‵ Behind ∷ []) ∵
       split ! $ move ! (2 ∷ 1 ∷ []) $ join ! $ move ! (1 ∷ 0 ∷ []) $ join ! $ move ! (2 ∷ 3 ∷ []) $ fjoin ! $ move ! (2 ∷ 0 ∷ []) $ fjoin ! $ move ! (1 ∷ 0 ∷ []) $ join ! $ nothing ! $ move ! (1 ∷ 0 ∷ []) $ done !
 
+  -- from the last units of out and the answer to the contract
   exits : (r : Built) (v : Val) (zs : List ℕ) → length zs ≡ length (out .now) → Says r zs → ent 𝓤 (⋆ 𝓤 H A (Toks ∷ ‵ (finally u16 (out .name) zs) ∷ ‵ (B.the-row .own r (v ∷ [])) ∷ [])) (Post v)
   exits r v zs same e =
       qed W (Toks ∷ ‵ (finally u16 (out .name) zs) ∷ ‵ (B.the-row .own r (v ∷ [])) ∷ []) ∵
       suffices ! _ (ends-at 𝓤 H A four.ended stayed (four-clauses 𝓤 H A mem″ run batch) W ((Lives, Held, tt, Passed, Bound), tt) v r (tt, (tt, (tt, (tt, (zs, tt))))) (tt, (tt, (tt, (tt, (same, tt)))))) $ says ! e $ frame ! $
       nothing ! $ move ! (1 ∷ 0 ∷ []) $ fjoin ! $ nothing ! $ fjoin ! $ nothing ! $ fjoin ! $ nothing ! $ fjoin ! $ nothing ! $ fjoin ! $ done !
 
+  -- the machine value of the records has its type
   array-typed : Holds (hasTy (arrayTy T.the-row 4) mach) × WT mach
   array-typed = array-lawful 𝓤 H A W T.the-row (LL.lawful T.the-type T′.the-laws 𝓤 H A W) 4 .typed xs (mach ∷ []) is-array .0
 
+  -- the MIR from the entry to the exit
   walk : (callee : Name) (𝓣 : Tables 𝓤 H) → Triple 𝓤 (𝓣 .C callee) (Entry 𝓤 H A mem″ run batch)
       → ent 𝓤 (onEntry 𝓤 H A four.signature Lives Held Passed Bound) (WpFn 𝓤 H (𝓣 .C) (𝓣 .Λ) (lending callee) Vs Post)
   walk callee 𝓣 known =
@@ -246,6 +270,7 @@ module _ {M : Type 1} (𝓤 : URA M) (H : Heap 𝓤) (A : Atoms 𝓤) (W : Given
       Lastly = Unit {0} × (Unit {0} × (Unit {0} × (Unit {0} × (List ℕ × Unit {0}))))
 
 module _ {M : Type 1} (𝓤 : URA M) (H : Heap 𝓤) (A : Atoms 𝓤) (W : Given 𝓤 H A) (mem″ : Memory → SProp 𝓤) (run : Routine → Fun 𝓤) (batch : Bool) (callee : Name) (𝓣 : Tables 𝓤 H) (known : Triple 𝓤 (𝓣 .C callee) (Entry 𝓤 H A mem″ run batch)) where
+  -- the walk, for all parameters
   walks : Walks 𝓤 H A four.ended stayed (WpFn 𝓤 H (𝓣 .C) (𝓣 .Λ) (lending callee)) (four-clauses 𝓤 H A mem″ run batch)
   walks = walked 𝓤 H A four.ended stayed (four-clauses 𝓤 H A mem″ run batch) (WpFn 𝓤 H (𝓣 .C) (𝓣 .Λ) (lending callee))
       (λ κs. (slice-vals, (vals, (slice-vals, (bool-vals, (slice-vals, tt))))))
@@ -254,6 +279,7 @@ module _ {M : Type 1} (𝓤 : URA M) (H : Heap 𝓤) (A : Atoms 𝓤) (W : Given
       (walk 𝓤 H A W mem″ run batch (κs .0) (κs .1 .0) (κs .1 .1 .0) (qs .0) (qs .1 .0) (qs .1 .1 .0) (a .0) (a .1 .0) (a .1 .1 .0) (a .1 .1 .1 .0) (a .1 .1 .1 .1 .0)
       (are .0 .0 .1) (are .1 .0) (are .1 .1 .0 .0 .1) (are .1 .1 .1 .1 .0 .0 .1) callee 𝓣 known))
 
+  -- so the function meets its contract
   pub lends : Meets 𝓤 H A four.signature (WpFn 𝓤 H (𝓣 .C) (𝓣 .Λ) (lending callee)) (closing 𝓤 H A four.ended (four-clauses 𝓤 H A mem″ run batch))
   lends =
       walk-meets 𝓤 H A four.ended stayed W (

@@ -41,26 +41,31 @@ module _ (batch force : Bool) (lent text : List ℕ) (all : List Arg) where
   abbrev ran : Pass → ℕ → List Arg → Held → Held
   ran pass place left h = record { answer = runOf pass text place (h .answer) left; out = runOut pass text place (h .answer) left (h .out) }
 
-  -- the stages behind the passes
+  -- behind the record pass
   abbrev named : Held → Held
   named h = record { answer = afterRecords batch lent (h .answer); out = h .out }
 
+  -- behind the units pass
   abbrev counted : Held → Held
   counted h = record { answer = afterUnits batch lent (h .answer); out = h .out }
 
+  -- behind measuring
   abbrev opened : Held → Held
   opened h = record { answer = afterMeasuring batch lent (length (h .out)) (h .answer); out = afterMeasuringOut batch lent (h .answer) (h .out) }
 
+  -- behind writing
   abbrev ended : Held → Held
   ended h = record { answer = afterWriting batch (h .answer); out = afterWritingOut batch (h .answer) (h .out) }
 
-  -- from each stage on
+  -- all that is behind the measuring pass
   abbrev fromOpened : Held → Held
   fromOpened h = ended (ran (Write batch force) 1 all (opened h))
 
+  -- all that is behind the units pass
   abbrev fromCounted : Held → Held
   fromCounted h = fromOpened (ran (Measure batch force) 1 all (counted h))
 
+  -- all that is behind the record pass
   abbrev fromNamed : Held → Held
   fromNamed h = fromCounted (ran (Units batch) 1 all (named h))
 

@@ -67,6 +67,7 @@ passing batch = record {
       (seq (call #listing·make-line-of (kind batch ∷ copy (place 1 []) ∷ copy (place 2 []) ∷ copy (place 3 []) ∷ copy (place 4 []) ∷ copy (place 7 []) ∷ []) (place 0 [])) return));
 }
 
+-- what the function still has of its parameters at exit
 abbrev stayed : Stays (entry.ended .signature .params) (entry.ended .kept)
 stayed = (
   stay-dropped (shrSliceOf (0 ∷ []) tt (plain (λ _. u16))) yes,
@@ -98,30 +99,39 @@ module _ {M : Type 1} (𝓤 : URA M) (H : Heap 𝓤) (A : Atoms 𝓤) (mem″ : 
 module _ {M : Type 1} (𝓤 : URA M) (H : Heap 𝓤) (A : Atoms 𝓤) (W : Given 𝓤 H A) (mem″ : Memory → SProp 𝓤) (run : Routine → Fun 𝓤) (batch : Bool)
     (κ₀ κ₁ κ₂ κ₃ : Lft) (q₀ q₁ q₂ q₃ : Share) (lent : RefT (List ℕ)) (args : RefT (List Arg)) (text : RefT (List ℕ)) (force : Bool) (out : RefT (List ℕ))
     (g₀ : Room u16 (length (lent .now))) (g₁ : Room T.the-row (length (args .now))) (g₂ : Room u16 (length (text .now))) (g₃ : Room u16 (length (out .now))) where
+  -- the lifetimes
   abbrev Lives : Lft × (Lft × (Lft × (Lft × Unit {0})))
   Lives = (κ₀, (κ₁, (κ₂, (κ₃, tt))))
 
+  -- the shares of their tokens
   abbrev Held : Share × (Share × (Share × (Share × Unit {0})))
   Held = (q₀, (q₁, (q₂, (q₃, tt))))
 
+  -- the parameters
   abbrev Passed : RefT (List ℕ) × (RefT (List Arg) × (RefT (List ℕ) × (Bool × (RefT (List ℕ) × Unit {0}))))
   Passed = (lent, (args, (text, (force, (out, tt)))))
 
+  -- the parameters' machine values, as the contract has them
   abbrev Bound : Vals entry.signature Lives
   Bound = (slice-vals lent, (slice-vals args, (slice-vals text, (vbool force ∷ [], (slice-vals out, tt)))))
 
+  -- the same, as the function is called with them
   abbrev Vs : List Val
   Vs = sliceVal (lent .ptr) (length (lent .now)) ∷ sliceVal (args .ptr) (length (args .now)) ∷ sliceVal (text .ptr) (length (text .now)) ∷ vbool force ∷ sliceVal (out .ptr) (length (out .now)) ∷ []
 
+  -- what is to hold at exit
   abbrev Post : Val → SProp 𝓤
   Post = walkOf 𝓤 H A entry.ended stayed (either-clauses 𝓤 H A mem″ run batch) .post ((Lives, Held, tt, Passed, Bound), tt)
 
+  -- the contract, of an answer and the last units of out
   abbrev Says : Built → List ℕ → Type 0
   Says r zs = Answered (eitherLine batch force (lent .now) (flatOf (args .now)) (text .now) (length (out .now))) r (out .now) zs
 
+  -- the tokens
   abbrev Toks : Item 𝓤
   Toks = ‵ (flft κ₀ q₀) ⊛ ‵ (flft κ₁ q₁) ⊛ ‵ (flft κ₂ q₂) ⊛ ‵ (flft κ₃ q₃) ⊛ ‵ ftrue
 
+  -- what the parameters own
   abbrev Owns : Item 𝓤
   Owns = ‵ (owns (ShrSlice (named 0) κ₀ u16 ∷ ShrSlice (named 1) κ₁ T.the-row ∷ ShrSlice (named 2) κ₂ u16 ∷ bool ∷ MutSlice (named 3) κ₃ u16 ∷ []) Passed Bound)
 
@@ -129,20 +139,24 @@ module _ {M : Type 1} (𝓤 : URA M) (H : Heap 𝓤) (A : Atoms 𝓤) (W : Given
   abbrev to : Made 𝓤 H A mem″ run .Ghost
   to = ((Lives, Held, tt, (batch, Passed), (vbool batch ∷ [], Bound)), tt)
 
+  -- what the function is passed is what `make_line_of` asks
   goes : ent 𝓤 (⋆ 𝓤 H A (Toks ∷ Owns ∷ [])) (Made 𝓤 H A mem″ run .pre to)
   goes =
       qed W (Toks ∷ Owns ∷ []) ∵ move ! (1 ∷ []) $ owned ! bool (Is bool) (bool-makes 𝓤 H A W) batch (vbool batch ∷ []) refl $ fjoin ! $ move ! (1 ∷ 0 ∷ []) $ join ! $ nothing ! $ move ! (1 ∷ 0 ∷ []) $ done !
 
+  -- from the last units of out and the answer to the contract
   exits : (r : Built) (v : Val) (zs : List ℕ) → length zs ≡ length (out .now) → Says r zs → ent 𝓤 (⋆ 𝓤 H A (Toks ∷ ‵ (finally u16 (out .name) zs) ∷ ‵ (B.the-row .own r (v ∷ [])) ∷ [])) (Post v)
   exits r v zs same e =
       qed W (Toks ∷ ‵ (finally u16 (out .name) zs) ∷ ‵ (B.the-row .own r (v ∷ [])) ∷ []) ∵
       suffices ! _ (ends-at 𝓤 H A entry.ended stayed (either-clauses 𝓤 H A mem″ run batch) W ((Lives, Held, tt, Passed, Bound), tt) v r (tt, (tt, (tt, (tt, (zs, tt))))) (tt, (tt, (tt, (tt, (same, tt)))))) $ says ! e $ frame ! $
       nothing ! $ move ! (1 ∷ 0 ∷ []) $ fjoin ! $ nothing ! $ fjoin ! $ nothing ! $ fjoin ! $ nothing ! $ fjoin ! $ nothing ! $ fjoin ! $ done !
 
+  -- the operand has the kind as its value
   kind-is : {K : Type 0} {Γ : List (Item 𝓤)} {E : Env 𝓤 H} → K → (b : Bool) → Opd K W Γ E (kind b) (vbool b)
   kind-is t true = true-lit t
   kind-is t false = false-lit t
 
+  -- the MIR from the entry to the exit
   walk : (𝓣 : Tables 𝓤 H) → Triple 𝓤 (𝓣 .C #listing·make-line-of) (Made 𝓤 H A mem″ run)
       → ent 𝓤 (onEntry 𝓤 H A entry.signature Lives Held Passed Bound) (WpFn 𝓤 H (𝓣 .C) (𝓣 .Λ) (passing batch) Vs Post)
   walk 𝓣 known =
@@ -171,6 +185,7 @@ module _ {M : Type 1} (𝓤 : URA M) (H : Heap 𝓤) (A : Atoms 𝓤) (W : Given
       Lastly = Unit {0} × (Unit {0} × (Unit {0} × (Unit {0} × (Unit {0} × (List ℕ × Unit {0})))))
 
 module _ {M : Type 1} (𝓤 : URA M) (H : Heap 𝓤) (A : Atoms 𝓤) (W : Given 𝓤 H A) (mem″ : Memory → SProp 𝓤) (run : Routine → Fun 𝓤) (batch : Bool) (𝓣 : Tables 𝓤 H) (known : Triple 𝓤 (𝓣 .C #listing·make-line-of) (Made 𝓤 H A mem″ run)) where
+  -- the walk, for all parameters
   walks : Walks 𝓤 H A entry.ended stayed (WpFn 𝓤 H (𝓣 .C) (𝓣 .Λ) (passing batch)) (either-clauses 𝓤 H A mem″ run batch)
   walks = walked 𝓤 H A entry.ended stayed (either-clauses 𝓤 H A mem″ run batch) (WpFn 𝓤 H (𝓣 .C) (𝓣 .Λ) (passing batch))
       (λ κs. (slice-vals, (slice-vals, (slice-vals, (bool-vals, (slice-vals, tt))))))
@@ -179,6 +194,7 @@ module _ {M : Type 1} (𝓤 : URA M) (H : Heap 𝓤) (A : Atoms 𝓤) (W : Given
       (walk 𝓤 H A W mem″ run batch (κs .0) (κs .1 .0) (κs .1 .1 .0) (κs .1 .1 .1 .0) (qs .0) (qs .1 .0) (qs .1 .1 .0) (qs .1 .1 .1 .0) (a .0) (a .1 .0) (a .1 .1 .0) (a .1 .1 .1 .0) (a .1 .1 .1 .1 .0)
       (are .0 .0 .1) (are .1 .0 .0 .1) (are .1 .1 .0 .0 .1) (are .1 .1 .1 .1 .0 .0 .1) 𝓣 known))
 
+  -- so the function meets its contract
   pub passes : Meets 𝓤 H A entry.signature (WpFn 𝓤 H (𝓣 .C) (𝓣 .Λ) (passing batch)) (closing 𝓤 H A entry.ended (either-clauses 𝓤 H A mem″ run batch))
   passes =
       walk-meets 𝓤 H A entry.ended stayed W (

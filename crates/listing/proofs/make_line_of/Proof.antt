@@ -93,16 +93,19 @@ use Rattle.listing.proofs.make_line_of.Code.Mir as body
 abbrev R : RattleType
 R = Array u8 256
 
+-- a number
 abbrev word : Ty
 word = tyInt w64
 
--- the machine values of a state and of a record
+-- the machine value of a state
 abbrev work-val : Work → Val
 work-val w = LL.val S.the-type S′.the-laws w
 
+-- the machine value of a record
 abbrev arg-val : Arg → Val
 arg-val a = LL.val T.the-type T′.the-laws a
 
+-- the machine value of an answer
 abbrev built-val : Built → Val
 built-val r = EL.val B.the-type B′.the-laws r
 
@@ -113,6 +116,7 @@ calling =
     (seq (assign (place 20 []) (aggregate (copy (place 19 []) ∷ copy (place 6 (field 1 ∷ [])) ∷ [])))
     (call #listing·works·turn (copy (place 9 []) ∷ copy (place 11 []) ∷ copy (place 8 []) ∷ copy (place 2 []) ∷ copy (place 4 []) ∷ copy (place 20 []) ∷ []) (place 9 [])))
 
+-- what the function still has of its parameters at exit
 abbrev stayed : Stays (all.ended .signature .params) (all.ended .kept)
 stayed = (
   stay-dropped (plain (λ _. bool)) yes,
@@ -133,12 +137,15 @@ stayed = (
 
 -- the contracts that the proof cites
 module _ {M : Type 1} (𝓤 : URA M) (H : Heap 𝓤) (A : Atoms 𝓤) (mem″ : Memory → SProp 𝓤) (run : Routine → Fun 𝓤) where
+  -- of `classes`
   abbrev Classes : Contract 𝓤
   Classes = tripleOf 𝓤 H A cls.signature (cls.spec 𝓤 H A mem″ run)
 
+  -- of `begin`
   abbrev Begin : Contract 𝓤
   Begin = tripleOf 𝓤 H A beg.signature (beg.spec 𝓤 H A mem″ run)
 
+  -- of `turn`
   abbrev Turn : Contract 𝓤
   Turn = tripleOf 𝓤 H A one.signature (one.spec 𝓤 H A mem″ run)
 
@@ -153,18 +160,23 @@ record Upto (lent text : List ℕ) (xs : List Arg) (first : Came) (d : List ℕ)
 module _ {M : Type 1} (𝓤 : URA M) (H : Heap 𝓤) (A : Atoms 𝓤) (W : Given 𝓤 H A) (mem″ : Memory → SProp 𝓤) (run : Routine → Fun 𝓤)
     (κ₀ κ₁ κ₂ κ₃ : Lft) (q₀ q₁ q₂ q₃ : Share) (batch force : Bool) (lent : RefT (List ℕ)) (args : RefT (List Arg)) (text out : RefT (List ℕ))
     (g₀ : Room u16 (length (lent .now))) (g₁ : Room T.the-row (length (args .now))) (g₂ : Room u16 (length (text .now))) (g₃ : Room u16 (length (out .now))) where
+  -- the records
   abbrev xs : List Arg
   xs = args .now
 
+  -- what out holds at entry
   abbrev d : List ℕ
   d = out .now
 
+  -- how many records there are
   abbrev n : ℕ
   n = length xs
 
+  -- the parameters' machine values, as the contract has them
   abbrev Bound : Vals all.signature (κ₀, (κ₁, (κ₂, (κ₃, tt))))
   Bound = (vbool batch ∷ [], (slice-vals lent, (slice-vals args, (slice-vals text, (vbool force ∷ [], (slice-vals out, tt))))))
 
+  -- what building comes to
   abbrev came : Came
   came = comes (lent .now) (text .now) xs (begun batch force n) d
 
@@ -172,34 +184,43 @@ module _ {M : Type 1} (𝓤 : URA M) (H : Heap 𝓤) (A : Atoms 𝓤) (W : Given
   abbrev Up : Type 0
   Up = Upto (lent .now) (text .now) xs came d
 
+  -- what is to hold at exit
   abbrev Post : Val → SProp 𝓤
   Post = walkOf 𝓤 H A all.ended stayed (all.clauses 𝓤 H A mem″ run) .post (((κ₀, (κ₁, (κ₂, (κ₃, tt)))), (q₀, (q₁, (q₂, (q₃, tt)))), tt, (batch, (lent, (args, (text, (force, (out, tt)))))), Bound), tt)
 
-  -- what lent, text, the class table at l and out own
+  -- what lent owns
   abbrev OwnL : Fml
   OwnL = ShrSlice (named 0) κ₀ u16 .own lent (slice-vals lent)
 
+  -- what text owns
   abbrev OwnT : Fml
   OwnT = ShrSlice (named 2) κ₂ u16 .own text (slice-vals text)
 
+  -- the class table in the local l
   abbrev table : ℕ → GName → List ℕ → RefT (List ℕ)
   table l γ cs = record { ptr = (l, 0); name = γ; now = cs }
 
+  -- what a reference to it owns, for the lifetime ν
   abbrev OwnC : ℕ → ℕ → GName → List ℕ → Fml
   OwnC ν l γ cs = ShrRef (named 0) (ν ∷ []) R .own (table l γ cs) (vptr l 0 ∷ [])
 
+  -- out under the name δ, where it holds zs
   abbrev ou : GName → List ℕ → RefT (List ℕ)
   ou δ zs = record { ptr = out .ptr; name = δ; now = zs }
 
+  -- what it owns, where its count is m
   abbrev OwnO : Lft → GName → List ℕ → ℕ → Fml
   OwnO κ δ zs m = MutSlice (named 3) κ u16 .own (ou δ zs) (sliceVal (out .ptr) m ∷ [])
 
+  -- the machine value of a state has its type
   work-typed : (w : Work) (v : Val) → Is S.the-row w (v ∷ []) → Holds (hasTy S′.mir v) × WT v
   work-typed w v is = LL.lawful S.the-type S′.the-laws 𝓤 H A W .typed w (v ∷ []) is .0
 
+  -- so has that of a record
   arg-typed : (a : Arg) → Is T.the-row a (arg-val a ∷ []) → Holds (hasTy T′.mir (arg-val a)) × WT (arg-val a)
   arg-typed a is = LL.lawful T.the-type T′.the-laws 𝓤 H A W .typed a (arg-val a ∷ []) is .0
 
+  -- the answer so far is one
   answer-is : (t : Up) → Is B.the-row (t .w .answer) (built-val (t .w .answer) ∷ [])
   answer-is t = LL.owed S.the-type S′.the-laws (t .w) (work-val (t .w) ∷ []) (t .ok) .1 .1 .1 .1 .1 .0
 
@@ -236,6 +257,7 @@ module _ {M : Type 1} (𝓤 : URA M) (H : Heap 𝓤) (A : Atoms 𝓤) (W : Given
     tt,
   )
 
+  -- what the loop has is what `turn` asks
   goes-turn : (w : Work) (a : Arg) (ν₀ l : ℕ) (γ : GName) (cs : List ℕ) (ν : ℕ) (δ : GName) (zs : List ℕ) → Is S.the-row w (work-val w ∷ []) → Is T.the-row a (arg-val a ∷ []) → cs ≡ classTable
       → ent 𝓤 (⋆ 𝓤 H A (‵ OwnL ∷ ‵ OwnT ∷ ‵ (OwnC ν₀ l γ cs) ∷ ‵ (flft κ₀ q₀) ∷ ‵ (flft κ₂ q₂) ∷ ‵ (flft (ν₀ ∷ []) fullShare) ∷ ‵ (OwnO (ν ∷ []) δ zs (length zs)) ∷ ‵ (flft (ν ∷ []) fullShare) ∷ []))
       (Turn 𝓤 H A mem″ run .pre (to-turn w a ν₀ l γ cs ν δ zs))
@@ -250,17 +272,21 @@ module _ {M : Type 1} (𝓤 : URA M) (H : Heap 𝓤) (A : Atoms 𝓤) (W : Given
   abbrev Nearer : Up → Up → Type 0
   Nearer t u = turnsLeft n (t .w) < turnsLeft n (u .w)
 
+  -- turns do not go on for ever
   Nearer-wf : WellFounded Nearer
   Nearer-wf = InvImage·wf (λ (t : Up). turnsLeft n (t .w)) (Nat·lt-wfRel .wf)
 
   module _ (𝓣 : Tables 𝓤 H) (known-turn : Triple 𝓤 (𝓣 .C #listing·works·turn) (Turn 𝓤 H A mem″ run)) (q′ : Share) (ν₀ : ℕ) (γ₀ : GName) (cs : List ℕ) (is-table : cs ≡ classTable)
       (l₀ l₁ l₂ l₃ l₄ l₅ l₆ l₇ l₈ l₉ l₁₀ l₁₁ l₁₂ l₁₃ l₁₄ l₁₅ l₁₆ l₁₇ l₁₈ l₁₉ l₂₀ : ℕ) where
+    -- the calls
     abbrev C : Calls 𝓤 H
     C = 𝓣 .C
 
+    -- the loops
     abbrev Λ : Loops 𝓤 H
     Λ = 𝓣 .Λ
 
+    -- the locals
     abbrev En : Env 𝓤 H
     En =
         (B′.mir, l₀) ∷ (tyBool, l₁) ∷ ((unitsTy (named 0)), l₂) ∷ ((argsTy (named 1)), l₃) ∷ ((unitsTy (named 2)), l₄) ∷ (tyBool, l₅) ∷ ((outTy (named 3)), l₆) ∷ ((arrayTy u8 256), l₇) ∷ ((arrayPtr u8 256), l₈) ∷ (S′.mir, l₉) ∷ (word, l₁₀) ∷ (T′.mir, l₁₁) ∷ ((arrayTy u8 256), l₁₂) ∷ (word, l₁₃)
@@ -280,6 +306,7 @@ module _ {M : Type 1} (𝓤 : URA M) (H : Heap 𝓤) (A : Atoms 𝓤) (W : Given
         ∷ ‵ (fobor κ₁ q₁ (arr-parts (shares T.the-row) n .part q′ xs (args .ptr .0) (args .ptr .1))) ∷ ‵ (fobor κ₃ q₃ (Held u16 (length d) (out .ptr .0) (out .ptr .1) (out .name)))
         ∷ ‵ (fobs (out .name) (codedHoleys u16 .code (heres u16 d))) ∷ ‵ (fauth (out .name) (codedHoleys u16 .code (heres u16 d))) ∷ ‵ (flent (ν₀ ∷ []) (partAt R fullShare cs l₇ 0)) ∷ []
 
+    -- the context between two turns
     abbrev At : Up → List (Item 𝓤)
     At t = Frame (‵ (froom word l₁₅ 0)) (‵ (froom tyBool l₁₄ 0)) (‵ (froom T′.mir l₁₁ 0)) (‵ (froom word l₁₀ 0)) t
 
@@ -406,6 +433,7 @@ module _ {M : Type 1} (𝓤 : URA M) (H : Heap 𝓤) (A : Atoms 𝓤) (W : Given
         move ! (15 ∷ 16 ∷ []) $ free1 ! $ move ! (13 ∷ 14 ∷ []) $ free1 ! $ move ! (11 ∷ 12 ∷ []) $ free1 ! $ move ! (9 ∷ 10 ∷ []) $ free1 ! $ move ! (7 ∷ 8 ∷ []) $ free1 ! $ move ! (5 ∷ 6 ∷ []) $ free1 ! $ move ! (3 ∷ 4 ∷ []) $ free1 ! $
         free0 ! $ keep ! (6 ∷ 2 ∷ 7 ∷ 0 ∷ 1 ∷ []) $ by ! (exits t over)
 
+    -- any turn
     turns : (t : Up) → Sq W (At t) (runs C Λ En body.turn-1 (anyQ (Ended t)))
     turns t = go (t .w .going) refl
       where
@@ -413,22 +441,28 @@ module _ {M : Type 1} (𝓤 : URA M) (H : Heap 𝓤) (A : Atoms 𝓤) (W : Given
         go true e = takes t e
         go false e = leaves t e
 
+    -- the loop, and what comes behind it
     begins : (t : Up) → Sq W (At t) (runs C Λ En body.t-6 (atRet En Post))
     begins t = first ! $ blocks ! $ loops ! 𝓣 Nearer Nearer-wf At turns t
 
   -- ---- from the entry to the loop
+  -- what `classes`'s triple binds outside
   abbrev to-classes : Classes 𝓤 H A mem″ run .Ghost
   to-classes = ((tt, tt, tt, tt, tt), tt)
 
+  -- `classes` asks for nothing
   goes-classes : ent 𝓤 (emp 𝓤) (Classes 𝓤 H A mem″ run .pre to-classes)
   goes-classes = qed W [] ∵ nothing ! $ nothing ! $ join ! $ nothing ! $ move ! (1 ∷ 0 ∷ []) $ done !
 
+  -- it answers the class table
   said-classes : (cs : List ℕ) → ent 𝓤 (ensured 𝓤 H A cls.ended (cls.clauses 𝓤 H A mem″ run) tt tt tt cs) (fact 𝓤 (cs ≡ classTable))
   said-classes cs = exE 𝓤 _ (λ ws. snd∗ 𝓤 (sem 𝓤 H A (lasts cls.ended tt tt ws)) (fact 𝓤 (cs ≡ classTable)))
 
+  -- what `begin`'s triple binds outside
   abbrev to-begin : Begin 𝓤 H A mem″ run .Ghost
   to-begin = ((tt, tt, tt, (batch, (force, (n, tt))), (vbool batch ∷ [], (vbool force ∷ [], (vint w64 n ∷ [], tt)))), tt)
 
+  -- `begin` asks for nothing
   goes-begin : ent 𝓤 (emp 𝓤) (Begin 𝓤 H A mem″ run .pre to-begin)
   goes-begin =
       qed W [] ∵ nothing ! $ nothing ! $ nothing ! $
@@ -436,9 +470,11 @@ module _ {M : Type 1} (𝓤 : URA M) (H : Heap 𝓤) (A : Atoms 𝓤) (W : Given
       owned ! bool (Is bool) (bool-makes 𝓤 H A W) force (vbool force ∷ []) refl $ fjoin ! $ owned ! bool (Is bool) (bool-makes 𝓤 H A W) batch (vbool batch ∷ []) refl $ fjoin ! $
       move ! (1 ∷ 0 ∷ []) $ join ! $ done !
 
+  -- it answers the work before the first turn
   said-begin : (r : Work) → ent 𝓤 (ensured 𝓤 H A beg.ended (beg.clauses 𝓤 H A mem″ run) tt (batch, (force, (n, tt))) tt r) (fact 𝓤 (r ≡ begun batch force n))
   said-begin r = exE 𝓤 _ (λ ws. snd∗ 𝓤 (sem 𝓤 H A (lasts beg.ended tt (batch, (force, (n, tt))) ws)) (fact 𝓤 (r ≡ begun batch force n)))
 
+  -- where the loop begins
   abbrev start : (r : Work) → Is S.the-row r (work-val r ∷ []) → r ≡ begun batch force n → Up
   start r ok e = record {
     w = r;
@@ -448,6 +484,7 @@ module _ {M : Type 1} (𝓤 : URA M) (H : Heap 𝓤) (A : Atoms 𝓤) (W : Given
     stands = subst (λ (w : Work). Stands (lent .now) (text .now) xs came w d) (sym e) (stands-first batch force (lent .now) (text .now) xs d);
   }
 
+  -- the MIR from the entry to the exit
   walk : (𝓣 : Tables 𝓤 H) → Triple 𝓤 (𝓣 .C #units·classes·classes) (Classes 𝓤 H A mem″ run) → Triple 𝓤 (𝓣 .C #listing·works·begin) (Begin 𝓤 H A mem″ run) → Triple 𝓤 (𝓣 .C #listing·works·turn) (Turn 𝓤 H A mem″ run)
       → ent 𝓤 (onEntry 𝓤 H A all.signature (κ₀, (κ₁, (κ₂, (κ₃, tt)))) (q₀, (q₁, (q₂, (q₃, tt)))) (batch, (lent, (args, (text, (force, (out, tt)))))) Bound)
       (WpFn 𝓤 H (𝓣 .C) (𝓣 .Λ) code.function (vbool batch ∷ sliceVal (lent .ptr) (length (lent .now)) ∷ sliceVal (args .ptr) n ∷ sliceVal (text .ptr) (length (text .now)) ∷ vbool force ∷ sliceVal (out .ptr) (length d) ∷ []) Post)
@@ -495,6 +532,7 @@ module _ {M : Type 1} (𝓤 : URA M) (H : Heap 𝓤) (A : Atoms 𝓤) (W : Given
 
 module _ {M : Type 1} (𝓤 : URA M) (H : Heap 𝓤) (A : Atoms 𝓤) (W : Given 𝓤 H A) (mem″ : Memory → SProp 𝓤) (run : Routine → Fun 𝓤) (𝓣 : Tables 𝓤 H)
     (known-classes : Triple 𝓤 (𝓣 .C #units·classes·classes) (Classes 𝓤 H A mem″ run)) (known-begin : Triple 𝓤 (𝓣 .C #listing·works·begin) (Begin 𝓤 H A mem″ run)) (known-turn : Triple 𝓤 (𝓣 .C #listing·works·turn) (Turn 𝓤 H A mem″ run)) where
+  -- the walk, for all parameters
   walks : Walks 𝓤 H A all.ended stayed (WpFn 𝓤 H (𝓣 .C) (𝓣 .Λ) code.function) (all.clauses 𝓤 H A mem″ run)
   walks = walked 𝓤 H A all.ended stayed (all.clauses 𝓤 H A mem″ run) (WpFn 𝓤 H (𝓣 .C) (𝓣 .Λ) code.function)
       (λ κs. (bool-vals, (slice-vals, (slice-vals, (slice-vals, (bool-vals, (slice-vals, tt)))))))
@@ -503,6 +541,7 @@ module _ {M : Type 1} (𝓤 : URA M) (H : Heap 𝓤) (A : Atoms 𝓤) (W : Given
       (walk 𝓤 H A W mem″ run (κs .0) (κs .1 .0) (κs .1 .1 .0) (κs .1 .1 .1 .0) (qs .0) (qs .1 .0) (qs .1 .1 .0) (qs .1 .1 .1 .0) (a .0) (a .1 .1 .1 .1 .0) (a .1 .0) (a .1 .1 .0) (a .1 .1 .1 .0) (a .1 .1 .1 .1 .1 .0)
       (are .1 .0 .0 .1) (are .1 .1 .0 .0 .1) (are .1 .1 .1 .0 .0 .1) (are .1 .1 .1 .1 .1 .0 .0 .1) 𝓣 known-classes known-begin known-turn))
 
+  -- so the function meets its contract
   meets : Meets 𝓤 H A all.signature (WpFn 𝓤 H (𝓣 .C) (𝓣 .Λ) code.function) (all.spec 𝓤 H A mem″ run)
   meets =
       walk-meets 𝓤 H A all.ended stayed W (
