@@ -8,7 +8,7 @@ use rules::Arg;
 use rules::Built;
 use units::classes;
 
-pub mod works;
+mod works;
 
 // Builds a line of either kind. The one loop of this crate: each turn is a covered one, and hands on the state by value.
 fn make_line_of(
