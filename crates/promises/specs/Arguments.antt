@@ -65,7 +65,7 @@ module _ (force : Bool) (program records text : List ℕ) {n : ℕ} {out out′ 
   line-written : Written force program records text (length out) (take n out′)
   line-written =
       let w = line-answer force program records text b in
-      record { built = w .made ∙ rw (w .lies .front); unquoted = unquoted; regular = regular }
+      record { built = w .made ∙ rw (w .lies .front); unquoted = unquoted; regulars = regular }
 
   taken : reading executable (take n out′) (length texts) (length spans) ≡ done list → Taken r texts′ spans′ list
   taken e =

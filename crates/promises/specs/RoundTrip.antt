@@ -22,7 +22,7 @@ use Rattle.promises.specs.Reading.{read-given}
 pub record Written (force : Bool) (program records text : List ℕ) (room : ℕ) (whole : List ℕ) : Type 0 where
   pub built : commandLine force program records text room ≡ done whole
   pub unquoted : any isQuote program ≡ false
-  pub regular : any isRaw (argumentsOf text records) ≡ false
+  pub regulars : any isRaw (argumentsOf text records) ≡ false
 
 -- a text of 32,767 units and a table of 32,768 numbers have room for whatever is not too long to be read
 pub always-enough : (executable lent : List ℕ) (room numbers : ℕ) → 32767 ≤ room → 32768 ≤ numbers
@@ -46,7 +46,7 @@ module _ {force : Bool} {program records text : List ℕ} {room : ℕ} {whole : 
       let some : isEmpty whole ≡ false = rw (← made) (line-some force program args) in
       let fits : length whole ≤ readLimit = rw (← made) (omega (arith, line-readable)) in (
         rw (whole-units executable whole some c) fits,
-        whole-arguments executable whole some c ∙ rw (← made) (line-read force program args (w .unquoted) (w .regular)),
+        whole-arguments executable whole some c ∙ rw (← made) (line-read force program args (w .unquoted) (w .regulars)),
       )
 
   -- demand 3: it is read as that program and those arguments, without refusal, where the output has room for their units and the table for their number
