@@ -1,0 +1,4 @@
+pub mod Putting
+pub mod Scanning
+pub mod Nexting
+pub mod Gathering

@@ -1,0 +1,121 @@
+-- Names and numbers, met one byte after another. Assumes nothing.
+use Prim.Native.Nat.{ℕ, suc, _+_, _-_, _*_, _≤_, _<_, zero-le}
+use native.Mathlib.Numerals.{add-one}
+use native.Mathlib.Omega.{arith}
+use mathlib.Core.Path.{_≡_, refl, sym, _∙_}
+use mathlib.Core.Bool.{Bool, true, false}
+use mathlib.Core.List.{List, [], _∷_}
+use lib.Dec.{eqb, leb}
+use lib.ListN.{length, getD, drop, drop-of-length-le}
+use lib.Seq.{drop-cons}
+use borrow.Author.Tests.{eq-eqb, ne-eqb, leb-true}
+use Rattle.rules.specs.Choice.{pick, both, flip}
+use Rattle.lexing.specs.Text.{taken, ill}
+use Rattle.lexing.specs.Word.{equal}
+use Rattle.lexing.specs.Number.{digitFits, numberFrom, isNumeral}
+
+-- ---- names
+
+-- words of unequal length are not the same
+pub unequal : (xs ys : List ℕ) → (length xs ≡ length ys → ⊥) → equal xs ys ≡ false
+unfolding equal
+unequal [] [] h = absurd (h refl)
+unequal [] (y ∷ ys) h = refl
+unequal (x ∷ xs) [] h = refl
+unequal (x ∷ xs) (y ∷ ys) h = rw (unequal xs ys (λ e. h (rw e))) (both-false (eqb x y))
+  where
+    both-false : (b : Bool) → both b false ≡ false
+    both-false true = refl
+    both-false false = refl
+
+-- i bytes are the same, and what is left decides
+pub record Alike (xs ys : List ℕ) (i : ℕ) : Type 0 where
+  pub within : i ≤ length xs
+  pub sizes : length xs ≡ length ys
+  pub still : equal xs ys ≡ equal (drop i xs) (drop i ys)
+
+module _ (xs ys : List ℕ) where
+  -- at the start none are compared
+  pub none-alike : length xs ≡ length ys → Alike xs ys 0
+  none-alike e = record { within = zero-le; sizes = e; still = refl }
+
+  step-alike : (i : ℕ) → i < length xs → length xs ≡ length ys → equal (drop i xs) (drop i ys) ≡ both (eqb (getD xs i 0) (getD ys i 0)) (equal (drop (i + 1) xs) (drop (i + 1) ys))
+  unfolding equal
+  step-alike i h e = let g : i < length ys = omega arith in rw (add-one i, drop-cons xs i 0 h, drop-cons ys i 0 g)
+
+  -- one more
+  pub one-alike : (i : ℕ) → Alike xs ys i → i < length xs → getD xs i 0 ≡ getD ys i 0 → Alike xs ys (i + 1)
+  one-alike i a h e =
+      record { within = omega arith; sizes = a .sizes; still = a .still ∙ step-alike i h (a .sizes) ∙ rw (eq-eqb (getD xs i 0) (getD ys i 0) e) }
+
+  -- one that differs
+  pub not-alike : (i : ℕ) → Alike xs ys i → i < length xs → (getD xs i 0 ≡ getD ys i 0 → ⊥) → equal xs ys ≡ false
+  not-alike i a h e = a .still ∙ step-alike i h (a .sizes) ∙ rw (ne-eqb (getD xs i 0) (getD ys i 0) e)
+
+  -- the end
+  pub all-alike : (i : ℕ) → Alike xs ys i → length xs ≤ i → equal xs ys ≡ true
+  unfolding equal
+  all-alike i a h =
+      let g : length ys ≤ i = omega (arith, a .sizes) in
+      a .still ∙ rw (drop-of-length-le xs {i = i} h, drop-of-length-le ys {i = i} g)
+
+-- ---- numbers
+
+-- i digits are read, and what is left decides
+pub record Counting (most : ℕ) (word : List ℕ) (number i : ℕ) : Type 0 where
+  pub within : i ≤ length word
+  pub small : number ≤ most
+  pub still : numberFrom most 0 word ≡ numberFrom most number (drop i word)
+
+module _ (most : ℕ) (word : List ℕ) where
+  -- at the start none are
+  pub none-counted : Counting most word 0 0
+  none-counted = record { within = zero-le; small = zero-le; still = refl }
+
+  -- a digit that fits lies between 48 and 57, and its number fits
+  pub fitting : (number x : ℕ) → digitFits most number x ≡ true → (48 ≤ x) × (x ≤ 57) × (number * 10 + (x - 48) ≤ most)
+  unfolding digitFits
+  fitting number x e = go (leb 48 x) (leb x 57) (leb (number * 10 + (x - 48)) most) (leb-true 48 x) (leb-true x 57) (leb-true (number * 10 + (x - 48)) most) e
+    where
+      go : (a b c : Bool) → (a ≡ true → 48 ≤ x) → (b ≡ true → x ≤ 57) → (c ≡ true → number * 10 + (x - 48) ≤ most)
+          → both (both a b) c ≡ true → (48 ≤ x) × (x ≤ 57) × (number * 10 + (x - 48) ≤ most)
+      go true true c f g h e = (f refl, g refl, h e)
+      go true false c f g h e = absurd (let z : _≡_ {A = ℕ} 0 1 = cc in omega arith)
+      go false b c f g h e = absurd (let z : _≡_ {A = ℕ} 0 1 = cc in omega arith)
+
+  -- one digit more
+  pub one-counted : (number i : ℕ) → Counting most word number i → i < length word → digitFits most number (getD word i 0) ≡ true
+      → Counting most word (number * 10 + (getD word i 0 - 48)) (i + 1)
+  unfolding numberFrom
+  one-counted number i a h e =
+      record { within = omega arith; small = fitting number (getD word i 0) e .2; still = a .still ∙ rw (add-one i, drop-cons word i 0 h, e) }
+
+  -- a byte that does not fit
+  pub not-counted : (number i : ℕ) → Counting most word number i → i < length word → digitFits most number (getD word i 0) ≡ false → ill ≡ numberFrom most 0 word
+  unfolding numberFrom
+  not-counted number i a h e = sym (a .still ∙ rw (drop-cons word i 0 h, e))
+
+  -- the end
+  pub all-counted : (number i : ℕ) → Counting most word number i → length word ≤ i → taken number ≡ numberFrom most 0 word
+  unfolding numberFrom
+  all-counted number i a h = sym (a .still ∙ rw (drop-of-length-le word {i = i} h))
+
+-- a word of two bytes or more is a numeral where the first is no 0
+pub longer-numeral : (word : List ℕ) → (length word ≡ 0 → ⊥) → (length word ≡ 1 → ⊥) → isNumeral word ≡ flip (eqb (getD word 0 0) 48)
+unfolding isNumeral
+longer-numeral [] e f = absurd (e refl)
+longer-numeral (x ∷ []) e f = absurd (f refl)
+longer-numeral (x ∷ y ∷ more) e f = refl
+
+-- an empty word is none
+pub no-numeral : (word : List ℕ) → length word ≡ 0 → isNumeral word ≡ false
+unfolding isNumeral
+no-numeral [] e = refl
+no-numeral (x ∷ more) e = absurd (omega arith)
+
+-- one byte can be one
+pub short-numeral : (word : List ℕ) → length word ≡ 1 → isNumeral word ≡ true
+unfolding isNumeral
+short-numeral [] e = absurd (omega arith)
+short-numeral (x ∷ []) e = refl
+short-numeral (x ∷ y ∷ more) e = absurd (omega arith)

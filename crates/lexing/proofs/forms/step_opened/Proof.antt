@@ -1,0 +1,23 @@
+use borrow.Author.Needs.{needs}
+use borrow.Author.Tests.{le-ltb, lt-ltb}
+use mathlib.Core.Path.{_∙_, sym}
+use Rattle.lexing.proofs.forms.step_opened.Statement.{statement}
+use Rattle.lexing.proofs.forms.step_opened.Tie as tie
+use Rattle.lexing.proofs.forms.step_opened.Reads as reads
+use Rattle.lexing.proofs.forms.step_opened.Lts as lts
+use Rattle.lexing.proofs.forms.hex_value.Reads as hex-value-reads
+
+-- src/forms.rt:78:9
+hex-value-requires : tie.Need-hex-value-requires
+hex-value-requires c κs = search needs
+
+-- src/forms.rt:80:9
+returns : tie.Need-returns
+returns c = simp (sym (c .before .hex-value .ensures), lt-ltb _ 16 (c .if1 .taken))
+
+-- src/forms.rt:75:1
+returns-2 : tie.Need-returns-2
+returns-2 c = simp (sym (c .before .hex-value .ensures), le-ltb _ 16 (c .if1 .left))
+
+pub step-opened-spec : {M : Type 1} → statement M
+step-opened-spec = tie.close (tie.spec hex-value-requires returns returns-2)

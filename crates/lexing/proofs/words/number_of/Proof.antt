@@ -1,0 +1,30 @@
+use borrow.Author.Needs.{needs}
+use mathlib.Core.Path.{_∙_, sym}
+use Rattle.lexing.specs.Number.{numberOf}
+use Rattle.lexing.proofs.words.number_of.Statement.{statement}
+use Rattle.lexing.proofs.words.number_of.Tie as tie
+use Rattle.lexing.proofs.words.number_of.Reads as reads
+use Rattle.lexing.proofs.words.number_of.Lts as lts
+use Rattle.lexing.proofs.words.digits_of.Reads as digits-of-reads
+use Rattle.lexing.proofs.words.is_numeral.Reads as is-numeral-reads
+
+-- src/words.rt:99:8
+is-numeral-requires : tie.Need-is-numeral-requires
+is-numeral-requires c κs = search needs
+
+-- src/words.rt:100:9
+digits-of-requires : tie.Need-digits-of-requires
+digits-of-requires c κs = search needs
+
+-- src/words.rt:100:9
+returns : tie.Need-returns
+unfolding numberOf
+returns c = rw (sym (c .before .before .is-numeral .ensures) ∙ c .before .if1 .taken) (c .digits-of .ensures)
+
+-- src/words.rt:96:1
+returns-2 : tie.Need-returns-2
+unfolding numberOf
+returns-2 c = rw (sym (c .before .is-numeral .ensures) ∙ c .if1 .left)
+
+pub number-of-spec : {M : Type 1} → statement M
+number-of-spec = tie.close (tie.spec is-numeral-requires digits-of-requires returns returns-2)

@@ -1,0 +1,29 @@
+-- The words of a question, which are separated by one space each, and names. Assumes nothing.
+use Prim.Native.Nat.{ℕ, _≤_}
+use mathlib.Core.Bool.{Bool, true, false}
+use mathlib.Core.List.{List, [], _∷_}
+use lib.Dec.{eqb, leb}
+use lib.ListN.{length, drop}
+use Rattle.rules.specs.Choice.{pick, both}
+
+-- a byte in front of the first word
+abbrev pub onto : ℕ → List (List ℕ) → List (List ℕ)
+onto x [] = (x ∷ []) ∷ []
+onto x (word ∷ more) = (x ∷ word) ∷ more
+
+-- "Words are separated by one space": two spaces in a row have an empty word between them, which is in no form
+unfoldable pub wordsOf : List ℕ → List (List ℕ)
+wordsOf [] = [] ∷ []
+wordsOf (x ∷ xs) = let more = wordsOf xs in pick (eqb x 32) ([] ∷ more) (onto x more)
+
+-- the words from an index on; past the end there are none
+unfoldable pub wordsAt : List ℕ → ℕ → List (List ℕ)
+unfolding wordsOf
+wordsAt question at = pick (leb at (length question)) (wordsOf (drop at question)) []
+
+-- two words are the same
+unfoldable pub equal : List ℕ → List ℕ → Bool
+equal [] [] = true
+equal [] (y ∷ ys) = false
+equal (x ∷ xs) [] = false
+equal (x ∷ xs) (y ∷ ys) = both (eqb x y) (equal xs ys)

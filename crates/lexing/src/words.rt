@@ -1,0 +1,107 @@
+// The words of a question: where one ends, what its decimal number is, and its text.
+ghost use mathlib.Core.Path.{_≡_};
+ghost use lib.Dec.{eqb};
+ghost use Rattle.laws.specs.Scan.{before};
+ghost use Rattle.lexing.specs.Word.{equal};
+ghost use Rattle.lexing.specs.Number.{numberOf, isNumeral, numberFrom, numberSaid, digitFits};
+
+// A decimal number, or none.
+pub enum Number {
+    Is(u64),
+    Ill,
+}
+
+// The index of the first byte that is the one given, or the length where there is none.
+pub fn find(bytes: &[u8], byte: u8) -> usize
+    ensures { λ r. ⌜ r ≡ before (λ x. eqb x byte) (now (bytes .entry)) ⌝ }
+{
+    let mut i = 0;
+    while i < bytes.len() {
+        if bytes[i] == byte {
+            return i;
+        }
+        i += 1;
+    }
+    i
+}
+
+// Whether a word is the name given.
+pub fn same(word: &[u8], name: &[u8]) -> bool
+    ensures { λ r. ⌜ r ≡ equal (now (word .entry)) (now (name .entry)) ⌝ }
+{
+    if word.len() != name.len() {
+        return false;
+    }
+    let mut i = 0;
+    while i < word.len() {
+        if word[i] != name[i] {
+            return false;
+        }
+        i += 1;
+    }
+    true
+}
+
+// Whether a digit may follow the number given, so that the number stays at most `most`.
+fn digit_fits(most: u64, number: u64, byte: u8) -> bool
+    ensures { λ r. ⌜ r ≡ digitFits most number byte ⌝ }
+{
+    if byte < 48 {
+        return false;
+    }
+    if byte > 57 {
+        return false;
+    }
+    let digit = (byte - 48) as u64;
+    if digit > most {
+        return false;
+    }
+    if number <= (most - digit) / 10 {
+        return true;
+    }
+    false
+}
+
+// The number that a word's digits are, at most `most`.
+fn digits_of(word: &[u8], most: u64) -> Number
+    ensures { λ r. ⌜ numberSaid r ≡ numberFrom most 0 (now (word .entry)) ⌝ }
+{
+    let mut number: u64 = 0;
+    let mut i = 0;
+    while i < word.len() {
+        let byte = word[i];
+        if digit_fits(most, number, byte) {
+            number = number * 10 + (byte - 48) as u64;
+            i += 1;
+        } else {
+            return Number::Ill;
+        }
+    }
+    Number::Is(number)
+}
+
+// Whether a word can be a number: it is not empty, and a 0 in front stands alone.
+fn is_numeral(word: &[u8]) -> bool
+    ensures { λ r. ⌜ r ≡ isNumeral (now (word .entry)) ⌝ }
+{
+    if word.len() == 0 {
+        return false;
+    }
+    if word.len() == 1 {
+        return true;
+    }
+    if word[0] == 48 {
+        return false;
+    }
+    true
+}
+
+// The number of a word without leading zeros, at most `most`.
+pub fn number_of(word: &[u8], most: u64) -> Number
+    ensures { λ r. ⌜ numberSaid r ≡ numberOf most (now (word .entry)) ⌝ }
+{
+    if is_numeral(word) {
+        return digits_of(word, most);
+    }
+    Number::Ill
+}

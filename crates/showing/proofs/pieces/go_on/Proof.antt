@@ -1,0 +1,66 @@
+use borrow.Author.Needs.{needs}
+use Prim.Native.Nat.{_-_}
+use lib.ListN.{length}
+use mathlib.Core.Path.{_∙_, sym}
+use native.Mathlib.Omega.{arith}
+use Rattle.showing.proofs.Stepping.{Going, all-gone, none-gone, one-gone, room-falls, room-ready}
+use Rattle.showing.proofs.pieces.go_on.Statement.{statement}
+use Rattle.showing.proofs.pieces.go_on.Tie as tie
+use Rattle.showing.proofs.pieces.go_on.Reads as reads
+use Rattle.showing.proofs.pieces.go_on.Lts as lts
+use Rattle.showing.proofs.pieces.fit.Reads as fit-reads
+use Rattle.showing.proofs.pieces.is_room.Reads as is-room-reads
+use Rattle.showing.proofs.pieces.turn.Reads as turn-reads
+
+abbrev Inv-loop : tie.InvT-loop
+Inv-loop out spans numbers piece₀ r₀ piece r = Going out spans numbers r₀ piece₀ r piece
+
+abbrev μ-loop : tie.MeasureT-loop
+μ-loop out spans numbers piece₀ r₀ piece r = length piece - r .at
+
+-- src/pieces.rt:238:9
+fit-requires : tie.Need-fit-requires Inv-loop μ-loop
+fit-requires c κs = search needs
+
+-- src/pieces.rt:239:5
+loop-holds : tie.Need-loop-holds Inv-loop μ-loop
+loop-holds c = none-gone _ _ _ _ _ (c .fit .ensures)
+
+-- src/pieces.rt:239:11
+is-room-requires : tie.Need-is-room-requires Inv-loop μ-loop
+is-room-requires c κs = search needs
+
+-- src/pieces.rt:240:9
+turn-requires : tie.Need-turn-requires Inv-loop μ-loop
+turn-requires c κs = room-ready _ _ _ (c .before .before .before .loop .inv) (sym (c .before .before .is-room .ensures) ∙ c .before .if1 .taken)
+
+-- src/pieces.rt:239:5
+loop-less : tie.Need-loop-less Inv-loop μ-loop
+loop-less c = room-falls _ _ _ (room-ready _ _ _ (c .before .before .before .before .before .before .loop .inv) (sym (c .before .before .before .before .before .is-room .ensures) ∙ c .before .before .before .before .if1 .taken)) (c .before .before .turn .ensures)
+
+-- src/pieces.rt:239:5
+loop-again : tie.Need-loop-again Inv-loop μ-loop
+loop-again c = one-gone _ _ _ (c .before .before .before .before .before .before .loop .inv) (room-ready _ _ _ (c .before .before .before .before .before .before .loop .inv) (sym (c .before .before .before .before .before .is-room .ensures) ∙ c .before .before .before .before .if1 .taken)) (c .before .before .turn .ensures)
+
+-- src/pieces.rt:229:1
+same-length : tie.Need-same-length Inv-loop μ-loop
+same-length c = search needs
+
+-- src/pieces.rt:229:1
+returns : tie.Need-returns Inv-loop μ-loop
+returns c = all-gone _ _ _ (c .before .before .before .fit .ensures) (c .before .before .loop .inv) (sym (c .before .is-room .ensures) ∙ c .if1 .left)
+
+pub go-on-spec : {M : Type 1} → statement M
+go-on-spec =
+    tie.close
+    (tie.spec
+    Inv-loop
+    μ-loop
+    fit-requires
+    loop-holds
+    is-room-requires
+    turn-requires
+    loop-less
+    loop-again
+    same-length
+    returns)

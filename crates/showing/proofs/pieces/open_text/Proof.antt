@@ -1,0 +1,51 @@
+use borrow.Author.Needs.{needs}
+use Rattle.rules.specs.Unit.{units}
+use Rattle.showing.specs.Piece.{opening}
+use Rattle.showing.proofs.pieces.open_text.Statement.{statement}
+use Rattle.showing.proofs.pieces.open_text.Tie as tie
+use Rattle.showing.proofs.pieces.open_text.Reads as reads
+use Rattle.showing.proofs.pieces.open_text.Lts as lts
+use Rattle.showing.proofs.shows.put_byte.Reads as put-byte-reads
+use Rattle.showing.proofs.shows.put_bytes.Reads as put-bytes-reads
+
+-- src/pieces.rt:93:37
+slice-aggregate-put-bytes : tie.Need-slice-aggregate-put-bytes
+slice-aggregate-put-bytes c = search needs
+
+-- src/pieces.rt:93:9
+put-bytes-requires : tie.Need-put-bytes-requires
+put-bytes-requires c κs = search needs
+
+-- src/pieces.rt:93:9
+same-length : tie.Need-same-length
+same-length c = search needs
+
+-- src/pieces.rt:93:9
+returns : tie.Need-returns
+unfolding opening units
+returns c = rw (c .before .before .before .before .before .if1 .taken) (c .before .before .put-bytes .ensures)
+
+-- src/pieces.rt:95:5
+put-byte-requires : tie.Need-put-byte-requires
+put-byte-requires c κs = search needs
+
+-- src/pieces.rt:88:1
+same-length-2 : tie.Need-same-length-2
+same-length-2 c = search needs
+
+-- src/pieces.rt:88:1
+returns-2 : tie.Need-returns-2
+unfolding opening units
+returns-2 c = rw (c .before .before .before .before .if1 .left) (c .before .before .put-byte .ensures)
+
+pub open-text-spec : {M : Type 1} → statement M
+open-text-spec =
+    tie.close
+    (tie.spec
+    slice-aggregate-put-bytes
+    put-bytes-requires
+    same-length
+    returns
+    put-byte-requires
+    same-length-2
+    returns-2)

@@ -1,0 +1,183 @@
+use borrow.Author.Needs.{needs}
+use Prim.Native.Nat.{_/_, _<_, _^_, suc, ℕ}
+use borrow.Fn.Kinds.{In}
+use borrow.Fn.PlainCycle.{Measures, is, falls, and}
+use Rattle.showing.proofs.shows.put_digits.Reads as put-digits
+use Rattle.showing.proofs.shows.put_digits.Kinds as put-digits-kinds
+use Rattle.showing.proofs.shows.+put_digits.Lts-put_digits as put-digits-lts
+use Rattle.showing.proofs.shows.glyph.Reads as glyph-reads
+use Rattle.showing.proofs.shows.put_byte.Reads as put-byte-reads
+use native.Mathlib.Omega.{arith}
+use native.Mathlib.Nat.{div-lt-self, mod-lt}
+use mathlib.Core.Path.{subst, sym}
+use Rattle.status.specs.Digits.{fewer}
+use Rattle.showing.proofs.Putting.{digits-short, last-put, one-digit, wide}
+use Rattle.showing.proofs.shows.+put_digits.{statement}
+use Rattle.showing.proofs.shows.+put_digits.Tie.{close}
+
+abbrev μ-put-digits : Measures 1 put-digits-kinds.ps ℕ
+μ-put-digits κs a = a .1 .1 .1 .0
+
+abbrev put-digits-at : ℕ → In 1 put-digits-kinds.ps
+put-digits-at t =
+    and 1 put-digits-kinds.ps (is 1 put-digits-kinds.ps μ-put-digits t) put-digits.Pre
+
+abbrev put-digits-below : ℕ → In 1 put-digits-kinds.ps
+put-digits-below t =
+    and 1 put-digits-kinds.ps (falls 1 put-digits-kinds.ps _<_ μ-put-digits t) put-digits.Pre
+
+-- src/shows.rt:66:36
+put-digits-glyph-requires : (t : ℕ) → put-digits-lts.Need-glyph-requires (
+  glyph-reads.Asked,
+  glyph-reads.Learnt,
+  put-byte-reads.Asked,
+  put-byte-reads.Learnt,
+  put-digits-below t,
+  put-digits.Post,
+) (put-digits-at t) put-digits.Post
+put-digits-glyph-requires t c κs = search needs
+
+-- src/shows.rt:66:9
+put-digits-put-byte-requires : (t : ℕ) → put-digits-lts.Need-put-byte-requires (
+  glyph-reads.Asked,
+  glyph-reads.Learnt,
+  put-byte-reads.Asked,
+  put-byte-reads.Learnt,
+  put-digits-below t,
+  put-digits.Post,
+) (put-digits-at t) put-digits.Post
+put-digits-put-byte-requires t c κs = search needs
+
+-- src/shows.rt:66:9
+put-digits-same-length : (t : ℕ) → put-digits-lts.Need-same-length (
+  glyph-reads.Asked,
+  glyph-reads.Learnt,
+  put-byte-reads.Asked,
+  put-byte-reads.Learnt,
+  put-digits-below t,
+  put-digits.Post,
+) (put-digits-at t) put-digits.Post
+put-digits-same-length t c = search needs
+
+-- src/shows.rt:66:9
+put-digits-returns : (t : ℕ) → put-digits-lts.Need-returns (
+  glyph-reads.Asked,
+  glyph-reads.Learnt,
+  put-byte-reads.Asked,
+  put-byte-reads.Learnt,
+  put-digits-below t,
+  put-digits.Post,
+) (put-digits-at t) put-digits.Post
+put-digits-returns t c = λ fuel l. rw (one-digit _ fuel _ (c .before .before .before .before .before .if1 .taken), ← c .before .before .before .glyph .ensures) (c .before .before .put-byte .ensures)
+
+-- src/shows.rt:68:44
+put-digits-div-put-digits : (t : ℕ) → put-digits-lts.Need-div-put-digits (
+  glyph-reads.Asked,
+  glyph-reads.Learnt,
+  put-byte-reads.Asked,
+  put-byte-reads.Learnt,
+  put-digits-below t,
+  put-digits.Post,
+) (put-digits-at t) put-digits.Post
+put-digits-div-put-digits t c = search needs
+
+-- src/shows.rt:68:9
+put-digits-put-digits-requires : (t : ℕ) → put-digits-lts.Need-put-digits-requires (
+  glyph-reads.Asked,
+  glyph-reads.Learnt,
+  put-byte-reads.Asked,
+  put-byte-reads.Learnt,
+  put-digits-below t,
+  put-digits.Post,
+) (put-digits-at t) put-digits.Post
+put-digits-put-digits-requires t c κs =
+    let a = c .before .before .before .args in
+    let p = c .before .before .before .pre .1 in
+    let s : a .number / a .base < a .number = div-lt-self (omega arith) (omega arith) in
+    (subst (λ (m : ℕ). a .number / a .base < m) (c .before .before .before .pre .0) s, (p .0, p .1, p .2))
+
+-- src/shows.rt:69:33
+put-digits-rem-glyph : (t : ℕ) → put-digits-lts.Need-rem-glyph (
+  glyph-reads.Asked,
+  glyph-reads.Learnt,
+  put-byte-reads.Asked,
+  put-byte-reads.Learnt,
+  put-digits-below t,
+  put-digits.Post,
+) (put-digits-at t) put-digits.Post
+put-digits-rem-glyph t c = search needs
+
+-- src/shows.rt:69:27
+put-digits-glyph-requires-2 : (t : ℕ) → put-digits-lts.Need-glyph-requires-2 (
+  glyph-reads.Asked,
+  glyph-reads.Learnt,
+  put-byte-reads.Asked,
+  put-byte-reads.Learnt,
+  put-digits-below t,
+  put-digits.Post,
+) (put-digits-at t) put-digits.Post
+put-digits-glyph-requires-2 t c κs =
+    let a = c .before .before .before .before .before .before .before .args in
+    let p = c .before .before .before .before .before .before .before .pre .1 in
+    let z : 0 < a .base = omega arith in
+    omega (arith, mod-lt (a .number) z, p .1)
+
+-- src/shows.rt:69:5
+put-digits-put-byte-requires-2 : (t : ℕ) → put-digits-lts.Need-put-byte-requires-2 (
+  glyph-reads.Asked,
+  glyph-reads.Learnt,
+  put-byte-reads.Asked,
+  put-byte-reads.Learnt,
+  put-digits-below t,
+  put-digits.Post,
+) (put-digits-at t) put-digits.Post
+put-digits-put-byte-requires-2 t c κs =
+    let a = c .before .before .before .before .before .before .before .before .args in
+    let p = c .before .before .before .before .before .before .before .before .pre .1 in
+    let l : a .number / a .base < a .base ^ suc 62 = fewer (a .base) 62 (a .number) (p .0) (wide (a .base) (a .number) (p .0) (c .before .before .before .before .before .before .before .before .fits .number .fits)) in
+    omega (arith, c .before .before .before .before .put-digits .ensures 62 l .counts, digits-short (a .base) 62 (a .number / a .base), p .2)
+
+-- src/shows.rt:61:1
+put-digits-same-length-2 : (t : ℕ) → put-digits-lts.Need-same-length-2 (
+  glyph-reads.Asked,
+  glyph-reads.Learnt,
+  put-byte-reads.Asked,
+  put-byte-reads.Learnt,
+  put-digits-below t,
+  put-digits.Post,
+) (put-digits-at t) put-digits.Post
+put-digits-same-length-2 t c = search needs
+
+-- src/shows.rt:61:1
+put-digits-returns-2 : (t : ℕ) → put-digits-lts.Need-returns-2 (
+  glyph-reads.Asked,
+  glyph-reads.Learnt,
+  put-byte-reads.Asked,
+  put-byte-reads.Learnt,
+  put-digits-below t,
+  put-digits.Post,
+) (put-digits-at t) put-digits.Post
+put-digits-returns-2 t c = last-put _ _ (c .before .before .before .before .before .before .before .before .before .before .before .pre .1 .0) (c .before .before .before .before .before .before .before .before .before .if1 .left) (c .before .before .before .before .before .before .before .put-digits .ensures) (rw (c .before .before .before .glyph2 .ensures) at (c .before .before .put-byte2 .ensures))
+
+pub +put-digits-spec : {M : Type 1} → statement M
++put-digits-spec = close μ-put-digits λ t. put-digits-lts.spec (
+  glyph-reads.Asked,
+  glyph-reads.Learnt,
+  put-byte-reads.Asked,
+  put-byte-reads.Learnt,
+  put-digits-below t,
+  put-digits.Post,
+)
+    (put-digits-at t)
+    put-digits.Post
+    (put-digits-glyph-requires t)
+    (put-digits-put-byte-requires t)
+    (put-digits-same-length t)
+    (put-digits-returns t)
+    (put-digits-div-put-digits t)
+    (put-digits-put-digits-requires t)
+    (put-digits-rem-glyph t)
+    (put-digits-glyph-requires-2 t)
+    (put-digits-put-byte-requires-2 t)
+    (put-digits-same-length-2 t)
+    (put-digits-returns-2 t)
