@@ -1,0 +1,166 @@
+// The commands, one function each.
+ghost use Prim.Native.Nat.{_≤_};
+ghost use lib.ListN.{length};
+use crate::gathering::gather;
+use crate::gathering::gather_call;
+use crate::gathering::take_word;
+use crate::reading_back::read_back;
+use crate::reading_back::say_read;
+use crate::reports::say;
+use crate::reports::say_number;
+use crate::reports::say_refusal;
+use crate::reports::say_result;
+use crate::room;
+use blocks::make_envp;
+use building::has_bat_extension;
+use building::make_bat_command_line;
+use building::make_command_line;
+use rules::Built;
+use terminal::numbers::Number;
+use terminal::numbers::number_of;
+use terminal::numbers::signed_of;
+
+// A built result: how long it is and the result itself, or the refusal. The answer is how many units it has, 0 where it is refused.
+fn say_built(what: &[u8], built: Built, out: &[u16]) -> usize
+    ensures { λ r. ⌜ r ≤ length (now (out .entry)) ⌝ }
+{
+    match built {
+        Built::Line { units } => {
+            if out.len() < units {
+                return 0;
+            }
+            say_result(what, &out[..units]);
+            units
+        }
+        Built::Refused(refusal) => {
+            say_refusal(refusal);
+            0
+        }
+    }
+}
+
+// `read`: the arguments of a line. An empty line is read as the name of the executable, here the tool's own.
+pub fn read() {
+    if os::arg_count() != 3 {
+        say(b"error: read takes one word, the line: put it in quotes\n");
+        return;
+    }
+    let mut text = room::text();
+    let took = take_word(2, &mut text, 0);
+    let units = took.units;
+    if took.fine {
+        let name = [108u16, 105, 110, 101, 115];
+        say_read(&text[..units], &name);
+    }
+}
+
+// The line of a program, which the text begins with, and of the arguments that records name in the text; and what is read back.
+fn write_line(text: &[u16], units: usize, records: &[u32], force: bool)
+    requires { ⌜ units ≤ length (now text) ⌝ }
+{
+    let program = &text[..units];
+    let mut out = room::out();
+    let built = make_command_line(program, records, text, force, &mut out);
+    let n = say_built(b"line", built, &out);
+    if n == 0 {
+        return;
+    }
+    say(b"read back:\n");
+    read_back(&out[..n], program, records, text);
+}
+
+// `write`: the line of a program and its arguments, and what is read back from it.
+pub fn write() {
+    let mut text = room::text();
+    let mut table = room::table();
+    let call = gather_call(&mut text, &mut table);
+    let numbers = call.numbers;
+    if call.fine {
+        write_line(&text, call.units, &table[..numbers], call.force);
+    }
+}
+
+// The line that runs a script, which the text begins with, on the arguments that records name in the text.
+fn batch_line(text: &[u16], units: usize, records: &[u32], force: bool)
+    requires { ⌜ units ≤ length (now text) ⌝ }
+{
+    let mut out = room::out();
+    let built = make_bat_command_line(&text[..units], records, text, force, &mut out);
+    say_built(b"line", built, &out);
+}
+
+// `batch`: the line that runs a script.
+pub fn batch() {
+    let mut text = room::text();
+    let mut table = room::table();
+    let call = gather_call(&mut text, &mut table);
+    let numbers = call.numbers;
+    if call.fine {
+        batch_line(&text, call.units, &table[..numbers], call.force);
+    }
+}
+
+// The block of the entries that records name in a text.
+fn env_block(text: &[u16], records: &[u32]) {
+    let mut out = room::out();
+    let built = make_envp(records, text, &mut out);
+    say_built(b"block", built, &out);
+}
+
+// `env`: the block of entries.
+pub fn env() {
+    let mut text = room::text();
+    let mut table = room::table();
+    let gathered = gather(true, 2, 0, &mut text, &mut table);
+    let numbers = gathered.numbers;
+    if gathered.fine {
+        env_block(&text, &table[..numbers]);
+    }
+}
+
+// The text and the signed code of a status.
+fn say_status(number: u32) {
+    let mut out = [0u16; 32];
+    let built = status::status_text(number, &mut out);
+    say_built(b"text", built, &out);
+    let signed = signed_of(status::code(number));
+    say(b"signed code: ");
+    if signed.negative {
+        say(b"-");
+    }
+    say_number(signed.size as usize);
+    say(b"\n");
+}
+
+// `status`: the text and the signed code of a number.
+pub fn status() {
+    if os::arg_count() != 3 {
+        say(b"error: status takes one word, a number\n");
+        return;
+    }
+    let mut word = room::word();
+    let n = os::arg(2, &mut word);
+    match number_of(&word[..n]) {
+        Number::Is(number) => say_status(number),
+        Number::Not => say(b"error: a status is a decimal number from 0 to 4294967295\n"),
+    }
+}
+
+// `suffix`: whether a path has the suffix of a batch script.
+pub fn suffix() {
+    if os::arg_count() != 3 {
+        say(b"error: suffix takes one word, a path\n");
+        return;
+    }
+    let mut text = room::text();
+    let took = take_word(2, &mut text, 0);
+    let units = took.units;
+    if !took.fine {
+        return;
+    }
+    if has_bat_extension(&text[..units]) {
+        say(b"yes, the path ends in .bat or .cmd: start it with a batch line\n");
+    } else {
+        say(b"no, the path ends neither in .bat nor in .cmd\n");
+    }
+}

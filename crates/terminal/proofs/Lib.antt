@@ -1,0 +1,9 @@
+pub mod Ranges
+pub mod Placing
+pub mod Sequence
+pub mod Decoding
+pub mod Showing
+pub mod Hex
+pub mod Wording
+pub mod Counting
+pub mod Signs

@@ -1,0 +1,131 @@
+// The words of a call: commands, entries, and the places of words in a text.
+ghost use mathlib.Core.Path.{_≡_};
+ghost use Rattle.laws.specs.Scan.{before};
+ghost use Rattle.terminal.specs.Word.{equal, isEquals, commandOf, isForce, keyLength, Spanned};
+use units::stores::put_number;
+
+// What a call asks for.
+pub enum Command {
+    Read,
+    Write,
+    Batch,
+    Env,
+    Status,
+    Suffix,
+    Help,
+    Unknown,
+}
+
+// Whether two runs of bytes are the same.
+pub fn same_bytes(a: &[u8], b: &[u8]) -> bool
+    ensures { λ r. ⌜ r ≡ equal (now (a .entry)) (now (b .entry)) ⌝ }
+{
+    if a.len() != b.len() {
+        return false;
+    }
+    let mut i = 0;
+    while i < a.len() {
+        if a[i] != b[i] {
+            return false;
+        }
+        i += 1;
+    }
+    true
+}
+
+// Whether two runs of units are the same.
+pub fn same_units(a: &[u16], b: &[u16]) -> bool
+    ensures { λ r. ⌜ r ≡ equal (now (a .entry)) (now (b .entry)) ⌝ }
+{
+    if a.len() != b.len() {
+        return false;
+    }
+    let mut i = 0;
+    while i < a.len() {
+        if a[i] != b[i] {
+            return false;
+        }
+        i += 1;
+    }
+    true
+}
+
+// The command that a word names.
+pub fn command_of(word: &[u8]) -> Command
+    ensures { λ r. ⌜ r ≡ commandOf (now (word .entry)) ⌝ }
+{
+    if same_bytes(word, b"read") {
+        return Command::Read;
+    }
+    if same_bytes(word, b"write") {
+        return Command::Write;
+    }
+    if same_bytes(word, b"batch") {
+        return Command::Batch;
+    }
+    if same_bytes(word, b"env") {
+        return Command::Env;
+    }
+    if same_bytes(word, b"status") {
+        return Command::Status;
+    }
+    if same_bytes(word, b"suffix") {
+        return Command::Suffix;
+    }
+    if same_bytes(word, b"help") {
+        return Command::Help;
+    }
+    Command::Unknown
+}
+
+// Whether a word asks for quotes round each argument.
+pub fn is_force(word: &[u8]) -> bool
+    ensures { λ r. ⌜ r ≡ isForce (now (word .entry)) ⌝ }
+{
+    same_bytes(word, b"--force")
+}
+
+// The index of the first `=`, or the length where there is none.
+fn find_equals(units: &[u16]) -> usize
+    ensures { λ r. ⌜ r ≡ before isEquals (now (units .entry)) ⌝ }
+{
+    let mut i = 0;
+    while i < units.len() {
+        if units[i] == 61 {
+            return i;
+        }
+        i += 1;
+    }
+    i
+}
+
+// How long an entry's key is. A key may begin with `=`, so the first unit is no end.
+pub fn key_length(units: &[u16]) -> usize
+    ensures { λ r. ⌜ r ≡ keyLength (now (units .entry)) ⌝ }
+{
+    if units.len() == 0 {
+        return 0;
+    }
+    1 + find_equals(&units[1..])
+}
+
+// Start and length of a part into a table, if they have a place there.
+pub fn put_span(table: &mut [u32], at: usize, start: usize, len: usize) -> bool
+    ensures { λ r. ⌜ Spanned at start len r (now (table .entry)) (now (table .exit)) ⌝ }
+{
+    if table.len() < 2 {
+        return false;
+    }
+    if table.len() - 2 < at {
+        return false;
+    }
+    if 4294967295 < start {
+        return false;
+    }
+    if 4294967295 < len {
+        return false;
+    }
+    put_number(table, at, start as u32);
+    put_number(table, at + 1, len as u32);
+    true
+}
