@@ -1,21 +1,18 @@
 -- The words that are left of a question, gathered one after another into lent texts and numbers. Assumes nothing.
-use Prim.Native.Nat.{ℕ, suc, _+_, _-_, _≤_, _<_}
-use native.Mathlib.Numerals.{add-one}
+use Prim.Native.Nat.{ℕ, _+_, _-_, _≤_, _<_}
 use native.Mathlib.Omega.{arith}
 use mathlib.Core.Path.{_≡_, refl, sym, ap, _∙_}
 use mathlib.Core.Bool.{Bool, true, false}
 use mathlib.Core.List.{List, [], _∷_, _++_}
-use lib.Dec.{ltb}
-use lib.ListN.{length, take, drop, set, length-take, length-drop}
-use lib.Seq.{sets, take-add, take-take, take-at, drop-at, length-take-le, length-sets}
+use lib.ListN.{length, take, drop, set, length-drop}
+use lib.Seq.{sets, take-add, take-take, take-at, drop-at, length-take-le}
 use borrow.Author.Tests.{lt-ltb, le-ltb}
-use Rattle.laws.specs.Scan.{leading}
 use Rattle.laws.specs.Store.{part-is}
 use Rattle.rules.specs.Record.{part}
 use Rattle.lexing.specs.Text.{Taken, taken, ill, behind, textOf, Filled}
 use Rattle.lexing.specs.Number.{numberOf}
 use Rattle.lexing.specs.Word.{wordsAt}
-use Rattle.lexing.specs.Next.{follow, Ends}
+use Rattle.lexing.specs.Next.{Ends}
 use Rattle.lexing.specs.Lists.{most32, Flat, colonIn, kindIn, textIn, keyIn, valueIn, argumentsFrom, entriesFrom, numbersFrom, Kinded, Keyed, Listed}
 use Rattle.lexing.specs.declared.texts.Filling.the-variants as Filling
 use Rattle.lexing.specs.declared.lists.Kind.the-variants as Kind

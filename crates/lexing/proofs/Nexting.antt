@@ -1,10 +1,10 @@
 -- The words of a question one after another. Assumes nothing.
-use Prim.Native.Nat.{ℕ, zero, suc, _+_, _-_, _*_, _≤_, _<_, zero-le, compare·suc-suc}
+use Prim.Native.Nat.{ℕ, suc, _+_, _-_, _*_, _≤_, _<_, zero-le, compare·suc-suc}
 use native.Mathlib.Nat.{zero-add, lt-of-not-le}
 use native.Mathlib.Numerals.{add-one}
 use native.Mathlib.Decide.{decLe}
 use native.Mathlib.Omega.{arith}
-use mathlib.Core.Path.{_≡_, refl, sym, ap, _∙_}
+use mathlib.Core.Path.{_≡_, refl, sym, _∙_}
 use mathlib.Core.Bool.{Bool, true, false}
 use mathlib.Core.List.{List, [], _∷_}
 use lib.Dec.{eqb, leb, ltb}
@@ -18,7 +18,7 @@ use Rattle.laws.specs.Scan.{leading, before, leading-in}
 use Rattle.lexing.specs.Text.{Taken, taken, ill, behind, textOf, Filled}
 use Rattle.lexing.specs.Number.{digitFits, numberFrom, isNumeral, numberOf}
 use Rattle.lexing.specs.Word.{onto, wordsOf, wordsAt}
-use Rattle.lexing.specs.Next.{follow, nextText, nextNumber, Ends, Took, Counted}
+use Rattle.lexing.specs.Next.{nextText, nextNumber, Ends, Took, Counted}
 use Rattle.lexing.specs.declared.texts.Filling.{Filling}
 use Rattle.lexing.specs.declared.texts.Filling.the-variants as Filling
 use Rattle.lexing.specs.declared.takes.Next.the-variants as Next

@@ -1,5 +1,5 @@
 -- Names and numbers, met one byte after another. Assumes nothing.
-use Prim.Native.Nat.{ℕ, suc, _+_, _-_, _*_, _≤_, _<_, zero-le}
+use Prim.Native.Nat.{ℕ, _+_, _-_, _*_, _≤_, _<_, zero-le}
 use native.Mathlib.Numerals.{add-one}
 use native.Mathlib.Omega.{arith}
 use mathlib.Core.Path.{_≡_, refl, sym, _∙_}
@@ -9,7 +9,7 @@ use lib.Dec.{eqb, leb}
 use lib.ListN.{length, getD, drop, drop-of-length-le}
 use lib.Seq.{drop-cons}
 use borrow.Author.Tests.{eq-eqb, ne-eqb, leb-true}
-use Rattle.rules.specs.Choice.{pick, both, flip}
+use Rattle.rules.specs.Choice.{both, flip}
 use Rattle.lexing.specs.Text.{taken, ill}
 use Rattle.lexing.specs.Word.{equal}
 use Rattle.lexing.specs.Number.{digitFits, numberFrom, isNumeral}

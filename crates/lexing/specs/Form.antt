@@ -2,7 +2,7 @@
 -- "A text is its units: 33 to 126 except `{` and `}` as themselves, every other as `{hex}` (lower case, no leading zeros ..); the empty text is
 -- `{}`. This form is the only one." "In KEY and VALUE of a question a colon is `{3a}`; everywhere else a colon stands for itself."
 use Prim.Native.Nat.{ℕ, _+_, _-_, _*_}
-use mathlib.Core.Bool.{Bool, true, false}
+use mathlib.Core.Bool.{Bool}
 use mathlib.Core.List.{List, [], _∷_, _++_}
 use lib.Dec.{eqb, leb, ltb}
 use Rattle.rules.specs.Choice.{pick, either, both, flip}

@@ -1,4 +1,1 @@
-pub mod Replying
-pub mod Signing
-pub mod Telling
-pub mod Asking
+pub mod Whole

@@ -1,3 +1,1 @@
-pub mod Reply
-pub mod Ask
 pub mod Verb

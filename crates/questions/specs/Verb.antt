@@ -1,18 +1,19 @@
 -- The verbs, and the answer to a whole question. Assumes nothing.
 use Prim.Native.Nat.{ℕ, _≤_, _<_, min}
-use mathlib.Core.Bool.{Bool, true, false}
+use mathlib.Core.Bool.{true, false}
 use mathlib.Core.List.{List, [], _∷_}
 use lib.Dec.{ltb}
 use lib.ListN.{length}
 use Rattle.rules.specs.Choice.{pick}
 use Rattle.rules.specs.Unit.{units}
-use Rattle.lexing.specs.Text.{Taken, taken, ill}
+use Rattle.lexing.specs.Text.{Taken, ill}
 use Rattle.lexing.specs.Word.{equal, wordsOf}
-use Rattle.questions.specs.Ask.{builder, readAnswer, lineAnswer, envAnswer, suffixAnswer, statusAnswer, lentLineAnswer, lentEnvAnswer, lentStatusAnswer, lentReadAnswer, partAnswer}
-use Rattle.questions.specs.declared.verbs.LentVerb.{LentVerb}
-use Rattle.questions.specs.declared.verbs.LentVerb.the-variants as LentVerb
-use Rattle.questions.specs.declared.verbs.Verb.{Verb}
-use Rattle.questions.specs.declared.verbs.Verb.the-variants as Verb
+use Rattle.asking.specs.Ask.{builder, readAnswer, lineAnswer, envAnswer, suffixAnswer, statusAnswer}
+use Rattle.lending.specs.Lend.{lentLineAnswer, lentEnvAnswer, lentStatusAnswer, lentReadAnswer, partAnswer}
+use Rattle.questions.specs.declared.LentVerb.{LentVerb}
+use Rattle.questions.specs.declared.LentVerb.the-variants as LentVerb
+use Rattle.questions.specs.declared.Verb.{Verb}
+use Rattle.questions.specs.declared.Verb.the-variants as Verb
 
 -- the second set's verb that a word is
 unfoldable pub lentVerbOf : List ℕ → LentVerb

@@ -1,15 +1,15 @@
 -- The steps of an answer: what each puts, and what is left then. Assumes nothing.
-use Prim.Native.Nat.{ℕ, zero, suc, _+_, _-_, _*_, _/_, _≤_, _<_, zero-le, min}
+use Prim.Native.Nat.{ℕ, zero, suc, _+_, _-_, _*_, _/_, _≤_, _<_, min}
 use native.Mathlib.Nat.{lt-of-not-le}
 use native.Mathlib.Numerals.{add-one}
 use native.Mathlib.Decide.{decLe}
 use native.Mathlib.Omega.{arith}
 use mathlib.Core.Path.{_≡_, refl, sym, ap, _∙_}
 use mathlib.Core.Bool.{Bool, true, false}
-use mathlib.Core.List.{List, [], _∷_, _++_, append-assoc, append-nil}
+use mathlib.Core.List.{List, [], _∷_, _++_, append-assoc}
 use lib.Dec.{leb}
 use lib.ListN.{length, getD, take, drop, length-append, length-drop, drop-of-length-le}
-use lib.Seq.{sets, sets-eq, drop-cons, take-nil, take-all, length-take-le, length-sets, take-at}
+use lib.Seq.{drop-cons, take-nil, take-all, length-sets}
 use borrow.Author.Tests.{le-leb, lt-leb, leb-true}
 use Rattle.lexing.specs.Front.{take-sets}
 use Rattle.laws.specs.Parts.{take-min}
@@ -18,7 +18,7 @@ use Rattle.rules.specs.Unit.{units}
 use Rattle.rules.specs.Record.{part}
 use Rattle.rules.specs.Status.{digits}
 use Rattle.lexing.specs.Form.{isPlain, shownUnit, shownEach, shown}
-use Rattle.showing.specs.Show.{Put, decimal, spacedNumber, signedNumber, headBytes}
+use Rattle.showing.specs.Show.{decimal, spacedNumber, signedNumber, headBytes}
 use Rattle.showing.specs.Piece.{spacedTexts, spacedNumbers, textsOf, current, restBytes, aloneBytes, leftBytes, Clipped, opening, front, fittedTo, placedAt, begunOf, unitOf, textOpened, numberPut, doneOf, Moved, isRoom, Fits, Ready, Turned, Went}
 use Rattle.showing.specs.declared.shows.Head.{Head}
 use Rattle.showing.specs.declared.shows.Head.the-variants as Head

@@ -4,8 +4,6 @@ use native.Mathlib.Omega.{arith}
 use Rattle.lexing.specs.Form.{hexValue}
 use Rattle.lexing.proofs.forms.hex_value.Statement.{statement}
 use Rattle.lexing.proofs.forms.hex_value.Tie as tie
-use Rattle.lexing.proofs.forms.hex_value.Reads as reads
-use Rattle.lexing.proofs.forms.hex_value.Lts as lts
 
 -- src/forms.rt:46:9
 returns : tie.Need-returns

@@ -1,10 +1,7 @@
-use borrow.Author.Needs.{needs}
 use borrow.Author.Tests.{le-leb, lt-leb, ne-eqb}
 use Rattle.lexing.specs.Form.{isPlain}
 use Rattle.lexing.proofs.forms.is_plain.Statement.{statement}
 use Rattle.lexing.proofs.forms.is_plain.Tie as tie
-use Rattle.lexing.proofs.forms.is_plain.Reads as reads
-use Rattle.lexing.proofs.forms.is_plain.Lts as lts
 
 -- src/forms.rt:24:9
 returns : tie.Need-returns

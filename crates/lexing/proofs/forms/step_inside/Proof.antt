@@ -4,10 +4,6 @@ use borrow.Author.Tests.{eq-eqb, le-leb, le-ltb, lt-leb, lt-ltb, ne-eqb}
 use native.Mathlib.Omega.{arith}
 use Rattle.lexing.proofs.forms.step_inside.Statement.{statement}
 use Rattle.lexing.proofs.forms.step_inside.Tie as tie
-use Rattle.lexing.proofs.forms.step_inside.Reads as reads
-use Rattle.lexing.proofs.forms.step_inside.Lts as lts
-use Rattle.lexing.proofs.forms.hex_value.Reads as hex-value-reads
-use Rattle.lexing.proofs.forms.is_plain.Reads as is-plain-reads
 
 -- src/forms.rt:90:12
 is-plain-requires : tie.Need-is-plain-requires

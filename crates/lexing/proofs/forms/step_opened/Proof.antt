@@ -1,11 +1,8 @@
 use borrow.Author.Needs.{needs}
 use borrow.Author.Tests.{le-ltb, lt-ltb}
-use mathlib.Core.Path.{_∙_, sym}
+use mathlib.Core.Path.{sym}
 use Rattle.lexing.proofs.forms.step_opened.Statement.{statement}
 use Rattle.lexing.proofs.forms.step_opened.Tie as tie
-use Rattle.lexing.proofs.forms.step_opened.Reads as reads
-use Rattle.lexing.proofs.forms.step_opened.Lts as lts
-use Rattle.lexing.proofs.forms.hex_value.Reads as hex-value-reads
 
 -- src/forms.rt:78:9
 hex-value-requires : tie.Need-hex-value-requires

@@ -3,9 +3,6 @@ use mathlib.Core.Path.{_∙_, sym}
 use borrow.Author.Tests.{eq-eqb, ne-eqb}
 use Rattle.lexing.proofs.forms.step_outside.Statement.{statement}
 use Rattle.lexing.proofs.forms.step_outside.Tie as tie
-use Rattle.lexing.proofs.forms.step_outside.Reads as reads
-use Rattle.lexing.proofs.forms.step_outside.Lts as lts
-use Rattle.lexing.proofs.forms.is_plain.Reads as is-plain-reads
 
 -- src/forms.rt:65:8
 is-plain-requires : tie.Need-is-plain-requires

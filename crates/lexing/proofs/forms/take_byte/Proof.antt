@@ -1,12 +1,6 @@
 use borrow.Author.Needs.{needs}
-use mathlib.Core.Path.{_∙_, sym}
 use Rattle.lexing.proofs.forms.take_byte.Statement.{statement}
 use Rattle.lexing.proofs.forms.take_byte.Tie as tie
-use Rattle.lexing.proofs.forms.take_byte.Reads as reads
-use Rattle.lexing.proofs.forms.take_byte.Lts as lts
-use Rattle.lexing.proofs.forms.step_inside.Reads as step-inside-reads
-use Rattle.lexing.proofs.forms.step_opened.Reads as step-opened-reads
-use Rattle.lexing.proofs.forms.step_outside.Reads as step-outside-reads
 
 -- src/forms.rt:113:26
 enum-told : tie.Need-enum-told

@@ -4,10 +4,6 @@ use mathlib.Core.Path.{_≡_}
 use Prim.Native.Nat.{_+_, suc}
 use Rattle.lexing.proofs.lists.put_entry.Statement.{statement}
 use Rattle.lexing.proofs.lists.put_entry.Tie as tie
-use Rattle.lexing.proofs.lists.put_entry.Reads as reads
-use Rattle.lexing.proofs.lists.put_entry.Lts as lts
-use Rattle.lexing.proofs.lists.put_three.Reads as put-three-reads
-use Rattle.units.proofs.stores.put_number.Reads as put-number-reads
 
 -- src/lists.rt:52:28
 cast-put-three : tie.Need-cast-put-three

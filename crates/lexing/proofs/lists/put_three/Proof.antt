@@ -5,9 +5,6 @@ use mathlib.Core.Path.{_≡_}
 use Prim.Native.Nat.{_+_, suc}
 use Rattle.lexing.proofs.lists.put_three.Statement.{statement}
 use Rattle.lexing.proofs.lists.put_three.Tie as tie
-use Rattle.lexing.proofs.lists.put_three.Reads as reads
-use Rattle.lexing.proofs.lists.put_three.Lts as lts
-use Rattle.units.proofs.stores.put_number.Reads as put-number-reads
 
 -- src/lists.rt:42:5
 put-number-requires : tie.Need-put-number-requires

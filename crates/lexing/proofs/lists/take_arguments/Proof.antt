@@ -1,19 +1,13 @@
 use borrow.Author.Needs.{needs}
-use Prim.Native.Nat.{_+_, _-_, _<_, _≤_}
+use Prim.Native.Nat.{_+_, _-_, _≤_}
 use lib.ListN.{length}
-use mathlib.Core.List.{[]}
-use mathlib.Core.Path.{_∙_, _≡_, ap, refl, sym}
+use mathlib.Core.Path.{refl}
 use native.Mathlib.Omega.{arith}
-use Rattle.lexing.specs.Lists.{Roomy, argumentsFrom, entriesFrom, numbersFrom}
-use Rattle.lexing.proofs.Gathering.{Gathering, all-listed, argument-ill, argument-room, argument-step, entry-ill, entry-step, none-gathered, none-listed, number-none, number-step, one-gathered}
+use Rattle.lexing.specs.Lists.{Roomy, argumentsFrom}
+use Rattle.lexing.proofs.Gathering.{Gathering, all-listed, argument-ill, argument-room, argument-step, none-gathered, none-listed, one-gathered}
 use Rattle.lexing.proofs.Nexting.{length-part}
 use Rattle.lexing.proofs.lists.take_arguments.Statement.{statement}
 use Rattle.lexing.proofs.lists.take_arguments.Tie as tie
-use Rattle.lexing.proofs.lists.take_arguments.Reads as reads
-use Rattle.lexing.proofs.lists.take_arguments.Lts as lts
-use Rattle.lexing.proofs.lists.put_three.Reads as put-three-reads
-use Rattle.lexing.proofs.lists.take_kind.Reads as take-kind-reads
-use Rattle.lexing.proofs.takes.word_end.Reads as word-end-reads
 
 abbrev Inv-loop : tie.InvT-loop
 Inv-loop question start text₀ numbers₀ at₀ to₀ n₀ text numbers at to n = Roomy (length question) start (length text₀) (length numbers₀) × Gathering argumentsFrom question start text₀ numbers₀ text numbers at to n

@@ -1,5 +1,5 @@
 use borrow.Author.Needs.{needs}
-use Prim.Native.Nat.{_+_, _-_, _<_, _≤_}
+use Prim.Native.Nat.{_+_, _-_, _≤_}
 use lib.ListN.{length}
 use mathlib.Core.Path.{refl}
 use native.Mathlib.Omega.{arith}
@@ -8,11 +8,6 @@ use Rattle.lexing.proofs.Nexting.{length-part}
 use Rattle.lexing.proofs.Gathering.{Gathering, all-listed, entry-ill, entry-room, entry-step, none-gathered, none-listed, one-gathered}
 use Rattle.lexing.proofs.lists.take_entries.Statement.{statement}
 use Rattle.lexing.proofs.lists.take_entries.Tie as tie
-use Rattle.lexing.proofs.lists.take_entries.Reads as reads
-use Rattle.lexing.proofs.lists.take_entries.Lts as lts
-use Rattle.lexing.proofs.lists.put_entry.Reads as put-entry-reads
-use Rattle.lexing.proofs.lists.take_entry.Reads as take-entry-reads
-use Rattle.lexing.proofs.takes.word_end.Reads as word-end-reads
 
 abbrev Inv-loop : tie.InvT-loop
 Inv-loop question start text₀ numbers₀ at₀ to₀ n₀ text numbers at to n = Roomy (length question) start (length text₀) (length numbers₀) × Gathering entriesFrom question start text₀ numbers₀ text numbers at to n

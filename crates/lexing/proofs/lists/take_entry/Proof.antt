@@ -1,17 +1,13 @@
 use borrow.Author.Needs.{needs}
 use native.Mathlib.Omega.{arith}
-use mathlib.Core.Path.{_∙_, ap, sym}
+use mathlib.Core.Path.{sym}
 use lib.Seq.{length-take-le}
-use lib.ListN.{length, length-drop, length-take}
+use lib.ListN.{length, length-take}
 use Rattle.lexing.proofs.Gathering.{ill-key, ill-value, key-filled, no-entry, one-entry}
 use Rattle.lexing.proofs.Nexting.{length-part}
 use Prim.Native.Nat.{_+_}
 use Rattle.lexing.proofs.lists.take_entry.Statement.{statement}
 use Rattle.lexing.proofs.lists.take_entry.Tie as tie
-use Rattle.lexing.proofs.lists.take_entry.Reads as reads
-use Rattle.lexing.proofs.lists.take_entry.Lts as lts
-use Rattle.lexing.proofs.texts.take_text.Reads as take-text-reads
-use Rattle.lexing.proofs.words.find.Reads as find-reads
 
 -- src/lists.rt:73:9
 find-requires : tie.Need-find-requires

@@ -2,17 +2,11 @@ use borrow.Author.Needs.{needs}
 use native.Mathlib.Omega.{arith}
 use mathlib.Core.Path.{_∙_, ap, sym}
 use lib.Seq.{length-take-le}
-use lib.ListN.{length-take}
 use Rattle.lexing.specs.Number.{numberSaid}
 use Rattle.lexing.proofs.Nexting.{number-within}
 use Rattle.lexing.proofs.Gathering.{ill-kind, ill-text, no-kind, one-kind}
 use Rattle.lexing.proofs.lists.take_kind.Statement.{statement}
 use Rattle.lexing.proofs.lists.take_kind.Tie as tie
-use Rattle.lexing.proofs.lists.take_kind.Reads as reads
-use Rattle.lexing.proofs.lists.take_kind.Lts as lts
-use Rattle.lexing.proofs.texts.take_text.Reads as take-text-reads
-use Rattle.lexing.proofs.words.find.Reads as find-reads
-use Rattle.lexing.proofs.words.number_of.Reads as number-of-reads
 
 -- src/lists.rt:52:9
 find-requires : tie.Need-find-requires

@@ -1,20 +1,15 @@
 use borrow.Author.Needs.{needs}
-use Prim.Native.Nat.{_+_, _-_, _<_, _≤_}
+use Prim.Native.Nat.{_+_, _-_, _≤_}
 use lib.ListN.{length}
 use mathlib.Core.List.{[]}
-use mathlib.Core.Path.{_∙_, _≡_, ap, refl, sym}
+use mathlib.Core.Path.{_∙_, ap, refl, sym}
 use native.Mathlib.Omega.{arith}
-use Rattle.lexing.specs.Lists.{Roomy, argumentsFrom, entriesFrom, numbersFrom}
-use Rattle.lexing.proofs.Gathering.{Gathering, all-listed, argument-ill, argument-step, entry-ill, entry-step, none-gathered, none-listed, number-none, number-step, one-gathered}
+use Rattle.lexing.specs.Lists.{numbersFrom}
+use Rattle.lexing.proofs.Gathering.{Gathering, all-listed, none-listed, number-none, number-step, one-gathered}
 use Rattle.lexing.specs.Number.{numberSaid}
 use Rattle.lexing.proofs.Nexting.{number-within}
 use Rattle.lexing.proofs.lists.take_numbers.Statement.{statement}
 use Rattle.lexing.proofs.lists.take_numbers.Tie as tie
-use Rattle.lexing.proofs.lists.take_numbers.Reads as reads
-use Rattle.lexing.proofs.lists.take_numbers.Lts as lts
-use Rattle.lexing.proofs.takes.word_end.Reads as word-end-reads
-use Rattle.lexing.proofs.words.number_of.Reads as number-of-reads
-use Rattle.units.proofs.stores.put_number.Reads as put-number-reads
 
 abbrev Inv-loop : tie.InvT-loop
 Inv-loop question start numbers₀ at₀ n₀ numbers at n = (length question ≤ length numbers₀) × Gathering (λ numbers text. numbersFrom numbers) question start [] numbers₀ [] numbers at 0 n

@@ -4,10 +4,6 @@ use Rattle.lexing.specs.Number.{numberSaid}
 use Rattle.lexing.proofs.Nexting.{number-ill, number-missing, number-next}
 use Rattle.lexing.proofs.takes.next_number.Statement.{statement}
 use Rattle.lexing.proofs.takes.next_number.Tie as tie
-use Rattle.lexing.proofs.takes.next_number.Reads as reads
-use Rattle.lexing.proofs.takes.next_number.Lts as lts
-use Rattle.lexing.proofs.takes.word_end.Reads as word-end-reads
-use Rattle.lexing.proofs.words.number_of.Reads as number-of-reads
 
 -- src/takes.rt:73:9
 returns : tie.Need-returns

@@ -1,15 +1,8 @@
 use borrow.Author.Needs.{needs}
 use native.Mathlib.Omega.{arith}
 use Rattle.lexing.proofs.Nexting.{length-part, text-ill, text-missing, text-next}
-use lib.ListN.{drop, length, take}
-use Prim.Native.Nat.{_-_, _≤_}
-use lib.Seq.{length-take-le}
 use Rattle.lexing.proofs.takes.next_text.Statement.{statement}
 use Rattle.lexing.proofs.takes.next_text.Tie as tie
-use Rattle.lexing.proofs.takes.next_text.Reads as reads
-use Rattle.lexing.proofs.takes.next_text.Lts as lts
-use Rattle.lexing.proofs.takes.word_end.Reads as word-end-reads
-use Rattle.lexing.proofs.texts.take_text.Reads as take-text-reads
 
 -- src/takes.rt:56:9
 returns : tie.Need-returns

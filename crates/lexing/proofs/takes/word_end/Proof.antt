@@ -1,17 +1,9 @@
 use borrow.Author.Needs.{needs}
 use native.Mathlib.Omega.{arith}
-use mathlib.Core.Path.{_∙_, ap}
-use lib.ListN.{length-drop}
-use Rattle.rules.specs.Choice.{flip}
-use Rattle.laws.specs.Scan.{before, leading-in}
-use Rattle.laws.specs.Store.{part-is}
-use lib.Dec.{eqb}
+use Rattle.laws.specs.Scan.{before}
 use Rattle.lexing.proofs.Nexting.{word-ends, word-fits}
 use Rattle.lexing.proofs.takes.word_end.Statement.{statement}
 use Rattle.lexing.proofs.takes.word_end.Tie as tie
-use Rattle.lexing.proofs.takes.word_end.Reads as reads
-use Rattle.lexing.proofs.takes.word_end.Lts as lts
-use Rattle.lexing.proofs.words.find.Reads as find-reads
 
 -- src/takes.rt:46:16
 sub-rest : tie.Need-sub-rest

@@ -4,8 +4,6 @@ use borrow.Author.Tests.{eq-eqb, ne-eqb}
 use Rattle.lexing.proofs.Putting.{braces-other, braces-two}
 use Rattle.lexing.proofs.texts.is_braces.Statement.{statement}
 use Rattle.lexing.proofs.texts.is_braces.Tie as tie
-use Rattle.lexing.proofs.texts.is_braces.Reads as reads
-use Rattle.lexing.proofs.texts.is_braces.Lts as lts
 
 -- src/texts.rt:53:9
 returns : tie.Need-returns

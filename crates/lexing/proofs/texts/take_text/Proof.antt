@@ -3,10 +3,6 @@ use mathlib.Core.Path.{_∙_, sym}
 use Rattle.lexing.proofs.Putting.{empty-text, full-text, no-text}
 use Rattle.lexing.proofs.texts.take_text.Statement.{statement}
 use Rattle.lexing.proofs.texts.take_text.Tie as tie
-use Rattle.lexing.proofs.texts.take_text.Reads as reads
-use Rattle.lexing.proofs.texts.take_text.Lts as lts
-use Rattle.lexing.proofs.texts.is_braces.Reads as is-braces-reads
-use Rattle.lexing.proofs.texts.take_units.Reads as take-units-reads
 
 -- src/texts.rt:67:9
 returns : tie.Need-returns

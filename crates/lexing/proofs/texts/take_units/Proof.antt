@@ -2,12 +2,9 @@ use borrow.Author.Needs.{needs}
 use Prim.Native.Nat.{_-_}
 use lib.ListN.{length}
 use Rattle.lexing.proofs.Putting.{Putting, all-put, cut-form, no-form, none-put, none-yet, one-put}
-use mathlib.Core.Path.{_∙_, refl, sym}
+use mathlib.Core.Path.{_∙_, sym}
 use Rattle.lexing.proofs.texts.take_units.Statement.{statement}
 use Rattle.lexing.proofs.texts.take_units.Tie as tie
-use Rattle.lexing.proofs.texts.take_units.Reads as reads
-use Rattle.lexing.proofs.texts.take_units.Lts as lts
-use Rattle.lexing.proofs.forms.take_byte.Reads as take-byte-reads
 
 abbrev Inv-loop : tie.InvT-loop
 Inv-loop word colons text₀ to spot₀ n₀ i₀ text spot n i = Putting colons word to text₀ text spot n i

@@ -5,8 +5,6 @@ use Prim.Native.Nat.{_*_, _+_, _-_}
 use Rattle.lexing.specs.Number.{digitFits}
 use Rattle.lexing.proofs.words.digit_fits.Statement.{statement}
 use Rattle.lexing.proofs.words.digit_fits.Tie as tie
-use Rattle.lexing.proofs.words.digit_fits.Reads as reads
-use Rattle.lexing.proofs.words.digit_fits.Lts as lts
 
 -- src/words.rt:50:9
 returns : tie.Need-returns

@@ -6,9 +6,6 @@ use native.Mathlib.Omega.{arith}
 use Rattle.lexing.proofs.Scanning.{Counting, all-counted, fitting, none-counted, not-counted, one-counted}
 use Rattle.lexing.proofs.words.digits_of.Statement.{statement}
 use Rattle.lexing.proofs.words.digits_of.Tie as tie
-use Rattle.lexing.proofs.words.digits_of.Reads as reads
-use Rattle.lexing.proofs.words.digits_of.Lts as lts
-use Rattle.lexing.proofs.words.digit_fits.Reads as digit-fits-reads
 
 abbrev Inv-loop : tie.InvT-loop
 Inv-loop word most number₀ i₀ number i = Counting most word number i

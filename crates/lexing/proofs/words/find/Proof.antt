@@ -7,8 +7,6 @@ use Rattle.rules.specs.Choice.{flip}
 use Rattle.laws.specs.Scan.{Passed, all-passed, none-passed, one-more, stopped}
 use Rattle.lexing.proofs.words.find.Statement.{statement}
 use Rattle.lexing.proofs.words.find.Tie as tie
-use Rattle.lexing.proofs.words.find.Reads as reads
-use Rattle.lexing.proofs.words.find.Lts as lts
 
 abbrev Inv-loop : tie.InvT-loop
 Inv-loop bytes byte i₀ i = Passed (λ x. flip (eqb x byte)) bytes i

@@ -4,8 +4,6 @@ use borrow.Author.Tests.{eq-eqb, ne-eqb}
 use Rattle.lexing.proofs.Scanning.{longer-numeral, no-numeral, short-numeral}
 use Rattle.lexing.proofs.words.is_numeral.Statement.{statement}
 use Rattle.lexing.proofs.words.is_numeral.Tie as tie
-use Rattle.lexing.proofs.words.is_numeral.Reads as reads
-use Rattle.lexing.proofs.words.is_numeral.Lts as lts
 
 -- src/words.rt:88:9
 returns : tie.Need-returns

@@ -3,10 +3,6 @@ use mathlib.Core.Path.{_∙_, sym}
 use Rattle.lexing.specs.Number.{numberOf}
 use Rattle.lexing.proofs.words.number_of.Statement.{statement}
 use Rattle.lexing.proofs.words.number_of.Tie as tie
-use Rattle.lexing.proofs.words.number_of.Reads as reads
-use Rattle.lexing.proofs.words.number_of.Lts as lts
-use Rattle.lexing.proofs.words.digits_of.Reads as digits-of-reads
-use Rattle.lexing.proofs.words.is_numeral.Reads as is-numeral-reads
 
 -- src/words.rt:99:8
 is-numeral-requires : tie.Need-is-numeral-requires

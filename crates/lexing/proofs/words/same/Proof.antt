@@ -5,8 +5,6 @@ use mathlib.Core.Path.{sym}
 use Rattle.lexing.proofs.Scanning.{Alike, all-alike, none-alike, not-alike, one-alike, unequal}
 use Rattle.lexing.proofs.words.same.Statement.{statement}
 use Rattle.lexing.proofs.words.same.Tie as tie
-use Rattle.lexing.proofs.words.same.Reads as reads
-use Rattle.lexing.proofs.words.same.Lts as lts
 
 abbrev Inv-loop : tie.InvT-loop
 Inv-loop word name i₀ i = Alike word name i

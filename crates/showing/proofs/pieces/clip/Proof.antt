@@ -2,8 +2,6 @@ use borrow.Author.Needs.{needs}
 use Rattle.showing.proofs.Stepping.{clip-cut, clip-in, clip-past}
 use Rattle.showing.proofs.pieces.clip.Statement.{statement}
 use Rattle.showing.proofs.pieces.clip.Tie as tie
-use Rattle.showing.proofs.pieces.clip.Reads as reads
-use Rattle.showing.proofs.pieces.clip.Lts as lts
 
 -- src/pieces.rt:49:9
 returns : tie.Need-returns

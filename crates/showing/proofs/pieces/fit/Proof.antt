@@ -1,9 +1,6 @@
 use borrow.Author.Needs.{needs}
 use Rattle.showing.proofs.pieces.fit.Statement.{statement}
 use Rattle.showing.proofs.pieces.fit.Tie as tie
-use Rattle.showing.proofs.pieces.fit.Reads as reads
-use Rattle.showing.proofs.pieces.fit.Lts as lts
-use Rattle.showing.proofs.pieces.least.Reads as least-reads
 
 -- src/pieces.rt:81:5
 least-requires : tie.Need-least-requires

@@ -2,15 +2,9 @@ use borrow.Author.Needs.{needs}
 use Prim.Native.Nat.{_-_}
 use lib.ListN.{length}
 use mathlib.Core.Path.{_∙_, sym}
-use native.Mathlib.Omega.{arith}
 use Rattle.showing.proofs.Stepping.{Going, all-gone, none-gone, one-gone, room-falls, room-ready}
 use Rattle.showing.proofs.pieces.go_on.Statement.{statement}
 use Rattle.showing.proofs.pieces.go_on.Tie as tie
-use Rattle.showing.proofs.pieces.go_on.Reads as reads
-use Rattle.showing.proofs.pieces.go_on.Lts as lts
-use Rattle.showing.proofs.pieces.fit.Reads as fit-reads
-use Rattle.showing.proofs.pieces.is_room.Reads as is-room-reads
-use Rattle.showing.proofs.pieces.turn.Reads as turn-reads
 
 abbrev Inv-loop : tie.InvT-loop
 Inv-loop out spans numbers piece₀ r₀ piece r = Going out spans numbers r₀ piece₀ r piece

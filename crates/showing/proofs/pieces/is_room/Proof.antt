@@ -1,10 +1,7 @@
-use borrow.Author.Needs.{needs}
 use borrow.Author.Tests.{le-leb, lt-leb}
 use Rattle.showing.specs.Piece.{isRoom}
 use Rattle.showing.proofs.pieces.is_room.Statement.{statement}
 use Rattle.showing.proofs.pieces.is_room.Tie as tie
-use Rattle.showing.proofs.pieces.is_room.Reads as reads
-use Rattle.showing.proofs.pieces.is_room.Lts as lts
 
 -- src/pieces.rt:153:9
 returns : tie.Need-returns

@@ -2,10 +2,6 @@ use borrow.Author.Needs.{needs}
 use mathlib.Core.Path.{refl}
 use Rattle.showing.proofs.pieces.next_number.Statement.{statement}
 use Rattle.showing.proofs.pieces.next_number.Tie as tie
-use Rattle.showing.proofs.pieces.next_number.Reads as reads
-use Rattle.showing.proofs.pieces.next_number.Lts as lts
-use Rattle.showing.proofs.pieces.wide.Reads as wide-reads
-use Rattle.showing.proofs.shows.put_signed.Reads as put-signed-reads
 
 -- src/pieces.rt:174:53
 mul-wide : tie.Need-mul-wide

@@ -3,10 +3,6 @@ use Rattle.rules.specs.Unit.{units}
 use Rattle.showing.specs.Piece.{opening}
 use Rattle.showing.proofs.pieces.open_text.Statement.{statement}
 use Rattle.showing.proofs.pieces.open_text.Tie as tie
-use Rattle.showing.proofs.pieces.open_text.Reads as reads
-use Rattle.showing.proofs.pieces.open_text.Lts as lts
-use Rattle.showing.proofs.shows.put_byte.Reads as put-byte-reads
-use Rattle.showing.proofs.shows.put_bytes.Reads as put-bytes-reads
 
 -- src/pieces.rt:93:37
 slice-aggregate-put-bytes : tie.Need-slice-aggregate-put-bytes

@@ -7,10 +7,6 @@ use Rattle.showing.proofs.Stepping.{some-head}
 use Rattle.showing.specs.Show.{headBytes}
 use Rattle.showing.proofs.pieces.put_front.Statement.{statement}
 use Rattle.showing.proofs.pieces.put_front.Tie as tie
-use Rattle.showing.proofs.pieces.put_front.Reads as reads
-use Rattle.showing.proofs.pieces.put_front.Lts as lts
-use Rattle.showing.proofs.pieces.open_text.Reads as open-text-reads
-use Rattle.showing.proofs.shows.put_head.Reads as put-head-reads
 
 -- src/pieces.rt:103:9
 put-head-requires : tie.Need-put-head-requires

@@ -1,10 +1,6 @@
 use borrow.Author.Needs.{needs}
 use Rattle.showing.proofs.pieces.span_at.Statement.{statement}
 use Rattle.showing.proofs.pieces.span_at.Tie as tie
-use Rattle.showing.proofs.pieces.span_at.Reads as reads
-use Rattle.showing.proofs.pieces.span_at.Lts as lts
-use Rattle.showing.proofs.pieces.clip.Reads as clip-reads
-use Rattle.showing.proofs.pieces.wide.Reads as wide-reads
 
 -- src/pieces.rt:150:13
 mul-i : tie.Need-mul-i

@@ -3,14 +3,6 @@ use native.Mathlib.Omega.{arith}
 use Rattle.showing.proofs.Stepping.{end-turn, front-turn, number-turn, text-turn, unit-turn}
 use Rattle.showing.proofs.pieces.turn.Statement.{statement}
 use Rattle.showing.proofs.pieces.turn.Tie as tie
-use Rattle.showing.proofs.pieces.turn.Reads as reads
-use Rattle.showing.proofs.pieces.turn.Lts as lts
-use Rattle.showing.proofs.pieces.begin.Reads as begin-reads
-use Rattle.showing.proofs.pieces.finish.Reads as finish-reads
-use Rattle.showing.proofs.pieces.next_number.Reads as next-number-reads
-use Rattle.showing.proofs.pieces.next_text.Reads as next-text-reads
-use Rattle.showing.proofs.pieces.next_unit.Reads as next-unit-reads
-use Rattle.showing.proofs.pieces.span_at.Reads as span-at-reads
 
 -- src/pieces.rt:197:13
 next-unit-requires : tie.Need-next-unit-requires

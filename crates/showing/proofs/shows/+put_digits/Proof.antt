@@ -9,7 +9,7 @@ use Rattle.showing.proofs.shows.glyph.Reads as glyph-reads
 use Rattle.showing.proofs.shows.put_byte.Reads as put-byte-reads
 use native.Mathlib.Omega.{arith}
 use native.Mathlib.Nat.{div-lt-self, mod-lt}
-use mathlib.Core.Path.{subst, sym}
+use mathlib.Core.Path.{subst}
 use Rattle.status.specs.Digits.{fewer}
 use Rattle.showing.proofs.Putting.{digits-short, last-put, one-digit, wide}
 use Rattle.showing.proofs.shows.+put_digits.{statement}

@@ -2,8 +2,6 @@ use borrow.Author.Needs.{needs}
 use borrow.Author.Tests.{le-ltb, lt-ltb}
 use Rattle.showing.proofs.shows.glyph.Statement.{statement}
 use Rattle.showing.proofs.shows.glyph.Tie as tie
-use Rattle.showing.proofs.shows.glyph.Reads as reads
-use Rattle.showing.proofs.shows.glyph.Lts as lts
 
 -- src/shows.rt:53:16
 cast-byte : tie.Need-cast-byte

@@ -3,8 +3,6 @@ use mathlib.Core.Path.{refl, sym}
 use lib.Seq.{set-out}
 use Rattle.showing.proofs.shows.put_byte.Statement.{statement}
 use Rattle.showing.proofs.shows.put_byte.Tie as tie
-use Rattle.showing.proofs.shows.put_byte.Reads as reads
-use Rattle.showing.proofs.shows.put_byte.Lts as lts
 
 -- src/shows.rt:28:9
 slice-write-piece : tie.Need-slice-write-piece

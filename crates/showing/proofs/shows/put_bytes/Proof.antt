@@ -6,9 +6,6 @@ use lib.ListN.{length}
 use Rattle.showing.proofs.Putting.{Copying, all-copied, none-copied, one-copied}
 use Rattle.showing.proofs.shows.put_bytes.Statement.{statement}
 use Rattle.showing.proofs.shows.put_bytes.Tie as tie
-use Rattle.showing.proofs.shows.put_bytes.Reads as reads
-use Rattle.showing.proofs.shows.put_bytes.Lts as lts
-use Rattle.showing.proofs.shows.put_byte.Reads as put-byte-reads
 
 abbrev Inv-loop : tie.InvT-loop
 Inv-loop piece₀ at bytes next₀ i₀ piece next i = (length piece ≡ length piece₀) × (at + length bytes < 2 ^ 64) × Copying bytes at piece₀ piece next i

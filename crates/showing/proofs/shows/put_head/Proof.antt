@@ -1,15 +1,9 @@
 use borrow.Author.Needs.{needs}
-use native.Mathlib.Omega.{arith}
 use Rattle.rules.specs.Unit.{units}
 use Rattle.showing.specs.Show.{headBytes}
 use Rattle.showing.proofs.Putting.{put-then}
 use Rattle.showing.proofs.shows.put_head.Statement.{statement}
 use Rattle.showing.proofs.shows.put_head.Tie as tie
-use Rattle.showing.proofs.shows.put_head.Reads as reads
-use Rattle.showing.proofs.shows.put_head.Lts as lts
-use Rattle.showing.proofs.shows.put_bytes.Reads as put-bytes-reads
-use Rattle.showing.proofs.shows.put_number.Reads as put-number-reads
-use Rattle.showing.proofs.shows.put_two.Reads as put-two-reads
 
 -- src/shows.rt:122:32
 enum-told : tie.Need-enum-told

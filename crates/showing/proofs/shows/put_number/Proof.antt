@@ -4,10 +4,6 @@ use Rattle.showing.specs.Show.{decimal, spacedNumber}
 use Rattle.showing.proofs.Putting.{put-then}
 use Rattle.showing.proofs.shows.put_number.Statement.{statement}
 use Rattle.showing.proofs.shows.put_number.Tie as tie
-use Rattle.showing.proofs.shows.put_number.Reads as reads
-use Rattle.showing.proofs.shows.put_number.Lts as lts
-use Rattle.showing.proofs.shows.put_byte.Reads as put-byte-reads
-use Rattle.showing.proofs.shows.put_digits.Reads as put-digits-reads
 
 -- src/shows.rt:90:9
 put-byte-requires : tie.Need-put-byte-requires

@@ -1,14 +1,9 @@
 use borrow.Author.Needs.{needs}
 use native.Mathlib.Omega.{arith}
-use Rattle.showing.specs.Show.{decimal, signedNumber, spacedNumber}
+use Rattle.showing.specs.Show.{decimal, signedNumber}
 use Rattle.showing.proofs.Putting.{put-then}
 use Rattle.showing.proofs.shows.put_signed.Statement.{statement}
 use Rattle.showing.proofs.shows.put_signed.Tie as tie
-use Rattle.showing.proofs.shows.put_signed.Reads as reads
-use Rattle.showing.proofs.shows.put_signed.Lts as lts
-use Rattle.showing.proofs.shows.put_bytes.Reads as put-bytes-reads
-use Rattle.showing.proofs.shows.put_digits.Reads as put-digits-reads
-use Rattle.showing.proofs.shows.put_number.Reads as put-number-reads
 
 -- src/shows.rt:100:41
 slice-aggregate-put-bytes : tie.Need-slice-aggregate-put-bytes

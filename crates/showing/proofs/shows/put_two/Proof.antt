@@ -3,10 +3,6 @@ use native.Mathlib.Omega.{arith}
 use Rattle.showing.proofs.Putting.{put-then, spaced-short}
 use Rattle.showing.proofs.shows.put_two.Statement.{statement}
 use Rattle.showing.proofs.shows.put_two.Tie as tie
-use Rattle.showing.proofs.shows.put_two.Reads as reads
-use Rattle.showing.proofs.shows.put_two.Lts as lts
-use Rattle.showing.proofs.shows.put_bytes.Reads as put-bytes-reads
-use Rattle.showing.proofs.shows.put_number.Reads as put-number-reads
 
 -- src/shows.rt:111:9
 put-bytes-requires : tie.Need-put-bytes-requires

@@ -5,11 +5,6 @@ use Rattle.lexing.specs.Form.{shownUnit}
 use Rattle.showing.proofs.Putting.{digits-short, plain-small, put-then}
 use Rattle.showing.proofs.shows.put_unit.Statement.{statement}
 use Rattle.showing.proofs.shows.put_unit.Tie as tie
-use Rattle.showing.proofs.shows.put_unit.Reads as reads
-use Rattle.showing.proofs.shows.put_unit.Lts as lts
-use Rattle.lexing.proofs.forms.is_plain.Reads as is-plain-reads
-use Rattle.showing.proofs.shows.put_byte.Reads as put-byte-reads
-use Rattle.showing.proofs.shows.put_digits.Reads as put-digits-reads
 
 -- src/shows.rt:77:8
 is-plain-requires : tie.Need-is-plain-requires

@@ -1,0 +1,4 @@
+pub mod Replying
+pub mod Signing
+pub mod Telling
+pub mod Asking

@@ -1,0 +1,10 @@
+use Rattle.asking.proofs.Replying.{alone-says}
+use Rattle.asking.proofs.replies.alone.Statement.{statement}
+use Rattle.asking.proofs.replies.alone.Tie as tie
+
+-- src/replies.rt:38:1
+returns : tie.Need-returns
+returns c = alone-says _ _ _ _
+
+pub alone-spec : {M : Type 1} → statement M
+alone-spec = tie.close (tie.spec returns)

@@ -1,0 +1,10 @@
+use Rattle.asking.proofs.Replying.{headed-says}
+use Rattle.asking.proofs.replies.headed.Statement.{statement}
+use Rattle.asking.proofs.replies.headed.Tie as tie
+
+-- src/replies.rt:18:1
+returns : tie.Need-returns
+returns c = headed-says _
+
+pub headed-spec : {M : Type 1} → statement M
+headed-spec = tie.close (tie.spec returns)

@@ -1,0 +1,10 @@
+use Rattle.asking.proofs.Signing.{sign-test}
+use Rattle.asking.proofs.replies.is_negative.Statement.{statement}
+use Rattle.asking.proofs.replies.is_negative.Tie as tie
+
+-- src/replies.rt:140:1
+returns : tie.Need-returns
+returns c = sign-test _ (c .fits .code)
+
+pub is-negative-spec : {M : Type 1} → statement M
+is-negative-spec = tie.close (tie.spec returns)
