@@ -177,7 +177,7 @@ def bad_questions():
             'line 0 p 0:', 'line 0 p 0:{}x', 'line 0 p 0:{61}', 'line 0 p 0:{020}', 'line 0 p 0:{2A0}', 'line 0 p 0:{10000}', 'line 0 p 0:{', 'line 0 p 0:}',
             'line 0 p 4294967296:x', 'env A', 'env A:b:c', 'env :', 'env A:', 'suffix', 'suffix a b', 'status', 'status 4294967296', 'status 01', 'status -1', 'status 1 2',
             'status x', 'lent-line 0 p t', 'lent-line 0 p t o 4294967296', 'lent-line 0 p t o 01', 'lent-status 1', 'lent-read e l', 'argument t', 'argument t 18446744073709551616',
-            'argument t 00', 'batch 0 "{20}"', 'read {22} x', 'READ x y', '#', 'read x\ty z']
+            'argument t 00', 'read {22} x', 'READ x y', '#', 'read x\ty z']
 
 
 def recorded():
