@@ -2,7 +2,7 @@
 import itertools
 import random
 
-from model import inner, shown
+from model import answer, inner, shown
 
 SIX = [32, 9, 34, 92, 97, 98]
 # one unit of each class and of each end of a range that a rule names, surrogates paired and alone
@@ -72,7 +72,7 @@ def statuses():
 def suffixes():
     """Every word of four units over the letters of both suffixes in both cases, near misses, short and long paths."""
     for word in ('.bat', '.cmd'):
-        for cased in itertools.product(*[{c, c.upper()} for c in word]):
+        for cased in itertools.product(*[sorted({c, c.upper()}) for c in word]):
             yield 'suffix ' + ''.join(cased)
             yield 'suffix a' + ''.join(cased)
             yield 'suffix ' + ''.join(cased) + '{0}'
@@ -171,6 +171,54 @@ def lent_questions(seed, count):
             yield ' '.join(['argument', shown(text), str(r.choice((0, 0, 1, 2, 3, 18446744073709551615)))] + list(map(str, spans)))
 
 
+def lent_rooms():
+    """Each entry point with no room, one unit too few, just enough, and one more; reading also with each count of numbers in the span table."""
+    dots = lambda n: shown([46] * n)
+    builds = ['lent-line 0 p x{20}y %s 0 0 3 1 0 1', 'lent-line 1 {} \\" %s 0 0 2 0 1 1', 'lent-line 0 p {} %s', 'lent-batch 0 s x%%y %s 0 0 3 1 1 1', 'lent-batch 1 s{0} {} %s 0 0 0',
+              'lent-env A1B %s 0 1 1 1 2 1 0 3', 'lent-env {} %s', 'lent-env {} %s 0 0 0 0', 'lent-status 0 %s', 'lent-status 2147483648 %s', 'lent-status 4294967295 %s']
+    for q in builds:
+        size = int(answer(q % dots(90)).split(' ')[1])
+        for n in (0, size - 1, size, size + 1):
+            yield q % dots(n)
+    for q in ('lent-read exe {}', 'lent-read {} {}', 'lent-read exe {0}b', 'lent-read e a{20}b', 'lent-read e "a{20}"""b{9}\\\\"c', 'lent-read e a{20}""'):
+        head = answer(f'{q} {dots(90)} ' + ' '.join('7' * 40)).split(' ')
+        count, size = int(head[1]), int(head[2])
+        for n in (0, size - 1, size, size + 1):
+            for numbers in (0, 1, 2 * count - 1, 2 * count, 2 * count + 1, 2 * count + 2):
+                if n >= 0:
+                    yield ' '.join([q, dots(n)] + ['7'] * numbers)
+
+
+def lent_limits():
+    """Each limit of a built line and a block one below, at and above, by parts that overlap: with no room the line at the limit is refused by 4, the next one by 2."""
+    text = shown([97] * 1100)
+    for head, limit, around in (('lent-line 0 p', 32767, 3), ('lent-line 1 p', 32767, 3), ('lent-batch 0 s', 32767, 32)):
+        for total in (limit - 1, limit, limit + 1):
+            each = 1 + 1000 + 2 * (head[-3] == '1')
+            count, rest = divmod(total - around, each)
+            last = f'1 7 {rest - 1}' if rest else ''
+            yield ' '.join([head, text, '{}'] + ['0 5 1000'] * count + [last]).strip()
+    for total in (65534, 65535, 65536):
+        count, rest = divmod(total - 1, 1002)
+        yield ' '.join(['lent-env', text, '..'] + ['3 900 0 100'] * count + [f'0 {rest - 2} 9 0'] * (rest > 1))
+
+
+def lent_faults():
+    """Refusals 1, 5 and 6 at each place, and which of two comes first; what is lent stays as it was."""
+    text = 'ab{0}{d}{a}c'
+    good, raw, nul, cr, lf = '0 0 2', '1 0 2', '0 1 2', '0 3 1', '0 4 2'
+    outside = ['2 0 0', '4294967295 0 0', '0 6 1', '0 7 0', '1 4294967295 1', '0 4294967295 4294967295', '1 1 4294967295']
+    for front in ([], [good], [good, raw], [raw, good, good]):
+        for bad in [nul, cr, lf, '1 1 2', '1 3 3', '0 2 2', '0 2 3'] + outside:
+            for back in ([], [nul], [cr], ['2 0 0'], ['0']):
+                for verb in ('lent-line 0 p', 'lent-line 1 {0}', 'lent-batch 0 s', 'lent-batch 1 a\\', 'lent-batch 0 {0}b'):
+                    yield ' '.join([verb, text, '.....'] + front + [bad] + back)
+    for front in ([], ['0 1 1 1'], ['0 1 0 2', '0 0 0 0']):
+        for bad in ('2 1 0 1', '0 1 2 1', '0 7 0 0', '0 0 7 0', '4294967295 1 0 0', '0 1 1 4294967295', '0', '0 0', '0 0 0'):
+            for back in ([], ['0 1 1 2'], ['9 9 9 9']):
+                yield ' '.join(['lent-env', text, '.....'] + front + [bad] + back)
+
+
 def bad_questions():
     """Lines that are no question."""
     return ['', 'read', 'read x', 'read x y z', 'reads x y', 'read  x', 'read x y ', ' read x y', 'line 2 p', 'line 0', 'line 0 p 0', 'line 0 p :x', 'line 0 p 00:x',
@@ -180,11 +228,19 @@ def bad_questions():
             'argument t 00', 'read {22} x', 'READ x y', '#', 'read x\ty z']
 
 
+def compared(seed, count):
+    """What `compare/run` asks."""
+    lists = [short_lines(7), short_arguments(4), each_unit(), limits(), statuses(), suffixes(), faults(), random_questions(seed, count), lent_rooms(), lent_limits(), lent_faults(),
+             lent_questions(seed, count // 10)]
+    return [q for part in lists for q in part]
+
+
 def recorded():
     """The list whose answers are kept in the repository."""
     r = random.Random(20)
     exhaustive = list(short_lines(4))
     five = [q for q in short_lines(5) if len(q) > 0]
     lists = [exhaustive, r.sample(five, 600), list(short_arguments(2)), r.sample(list(short_arguments(4)), 500), r.sample(list(each_unit()), 500), list(limits()),
-             statuses(), r.sample(list(suffixes()), 80), r.sample(list(faults()), 500), list(random_questions(20, 700)), list(lent_questions(20, 900)), bad_questions()]
+             statuses(), r.sample(list(suffixes()), 80), r.sample(list(faults()), 500), list(random_questions(20, 700)), list(lent_questions(20, 900)),
+             list(lent_rooms()), list(lent_limits()), r.sample(list(lent_faults()), 400), bad_questions()]
     return [q for part in lists for q in part]

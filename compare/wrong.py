@@ -1,0 +1,90 @@
+"""Six wrong variants of reader and writer, document 01's "Errors easily made": how many of the recorded answers of `answer` catch each.
+
+usage: wrong.py        (from any folder)
+
+Each variant is made in a scratch copy, compiled with no proof (`rt try`) and asked the recorded questions. Exit status 1 if one of them answers
+everything as recorded, or the code as it stands does not.
+"""
+import os
+import shutil
+import subprocess
+import sys
+import tempfile
+
+ROOT = os.path.dirname(os.path.dirname(os.path.abspath(__file__)))
+
+# What the variant does: a file, and each text that is replaced in it.
+VARIANTS = [
+    ('the code as it stands', 'reading/src/laying.rt', []),
+    ('an empty argument at the end of a line dropped', 'reading/src/laying.rt',
+     [('        count += 1;\n', '        if 0 < units {\n            count += 1;\n        } else if i + took.used < line.len() {\n            count += 1;\n        }\n')]),
+    ('argument 0 read with the backslash rule', 'reading/src/laying.rt', [('let first = read_first(line, text);', 'let first = read_later(line, text);')]),
+    ('all backslashes doubled', 'quoting/src/escapes.rt',
+     [('        let k = scans::last_backslashes(run);\n        stores::copy_run(out, to, run);\n        to += n;\n', '        let k = 0;\n        to = put_doubled(out, to, run);\n'),
+      ('// The units of an argument, without', '''fn put_doubled(out: &mut [u16], at: usize, run: &[u16]) -> usize {
+    let mut to = at;
+    let mut i = 0;
+    while i < run.len() {
+        if run[i] == 92 {
+            stores::put(out, to, 92);
+            to += 1;
+        }
+        stores::put(out, to, run[i]);
+        to += 1;
+        i += 1;
+    }
+    to
+}
+
+// The units of an argument, without''')]),
+    ('a quote mark of a batch argument escaped with a backslash', 'quoting/src/escapes.rt', [('put_quotes(out, at, k, 2)', 'put_quotes(out, at, k + 1, 1)')]),
+    ('NUL tested before CR in a batch argument', 'building/src/judging.rt',
+     [('    if breaks_line(batch', '    if scans::has_nul(content) {\n        return Built::Refused(Refusal::Nul(place));\n    }\n    if breaks_line(batch')]),
+    ('units written before a later argument is refused', 'building/src/passes.rt',
+     [('        Pass::Units(batch) => judging::judge_units(batch, text, units, place, arg),\n',
+       '        Pass::Units(batch) => {\n            writing::add_argument(classes, out, units, text, arg, batch, false);\n            judging::judge_units(batch, text, units, place, arg)\n        }\n')]),
+]
+
+
+def program(scratch, path, changes):
+    """The command that starts `answer` with these changes."""
+    crates = os.path.join(scratch, 'crates')
+    shutil.copytree(os.path.join(ROOT, 'crates'), crates, ignore=shutil.ignore_patterns('proofs', 'specs', 'must-fail'))
+    shutil.copy(os.path.join(ROOT, 'crates.txt'), scratch)
+    text = open(os.path.join(crates, path)).read()
+    for old, new in changes:
+        if text.count(old) != 1:
+            sys.exit(f'{path} no longer has just one {old!r}')
+        text = text.replace(old, new)
+    open(os.path.join(crates, path), 'w').write(text)
+    # Tried with no question: what counts is that the linker keeps the program.
+    for name in ('stdin', 'stdout'):
+        open(os.path.join(crates, 'answer', name), 'w').close()
+    kit, kept = os.path.join(scratch, 'kit'), os.path.join(scratch, 'target/bin/answer')
+    os.makedirs(os.path.dirname(kept))
+    keep = f'"$real" "$@" || exit\nwhile [ "$1" != -o ]; do shift; done\ncp "$2" {kept}\n'
+    subprocess.run([os.path.join(ROOT, 'tools/linked-kit'), kit, 'ld.lld'], input=keep, text=True, check=True)
+    tried = subprocess.run(['rt', 'try', 'answer'], cwd=scratch, env={**os.environ, 'RATTLE_HOME': kit}, capture_output=True, text=True)
+    if not os.path.exists(kept):
+        sys.exit(tried.stdout + tried.stderr)
+    shutil.copytree(os.path.join(ROOT, 'tools'), os.path.join(scratch, 'tools'))
+    return [os.path.join(scratch, 'tools/start'), 'answer']
+
+
+def main():
+    asked = open(os.path.join(ROOT, 'crates/answer/stdin')).read().split('\n')[:-1]
+    recorded = open(os.path.join(ROOT, 'crates/answer/stdout')).read().split('\n')[:-1]
+    status = 0
+    for what, path, changes in VARIANTS:
+        with tempfile.TemporaryDirectory() as scratch:
+            ran = subprocess.run(program(scratch, path, changes), input='\n'.join(asked) + '\n', capture_output=True, text=True)
+        answers = ran.stdout.split('\n')[:-1]
+        answers += ['none'] * (len(asked) - len(answers))
+        caught = sorted((len(q), q) for q, want, have in zip(asked, recorded, answers) if want != have)
+        print(f'{what}: {len(caught)} of {len(asked)} answers differ' + (f', the shortest on: {caught[0][1]}' if caught else ''))
+        if bool(caught) != bool(changes):
+            status = 1
+    sys.exit(status)
+
+
+main()
