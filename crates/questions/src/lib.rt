@@ -12,6 +12,7 @@ use lexing::takes::word_end;
 use lexing::words::same;
 use showing::pieces::Answer;
 use showing::shows::Head;
+use units::parts::smaller;
 
 // The most bytes of a question.
 const LONGEST: usize = 400000;
@@ -137,16 +138,6 @@ fn ask_verb(
     }
 }
 
-// The smaller of two numbers.
-fn least(a: usize, b: usize) -> usize
-    ensures { λ r. ⌜ r ≡ min a b ⌝ }
-{
-    if a < b {
-        return a;
-    }
-    b
-}
-
 // Answers a question. It takes at most as many bytes as the protocol does, and as there are elements in each of what is lent.
 pub fn ask(
     question: &[u8],
@@ -158,9 +149,9 @@ pub fn ask(
 ) -> Answer
     ensures { λ r. ⌜ Says (answerTo (longestIn (length (now (name .entry))) (length (now (text .entry))) (length (now (numbers .entry))) (length (now (out .entry)))) (length (now (out .entry))) (length (now (spans .entry))) (now (question .entry))) r (now (out .exit)) (now (spans .exit)) (now (numbers .exit)) ⌝ }
 {
-    let lists = least(numbers.len(), out.len());
-    let texts = least(name.len(), text.len());
-    if least(LONGEST, least(texts, lists)) < question.len() {
+    let lists = smaller(numbers.len(), out.len());
+    let texts = smaller(name.len(), text.len());
+    if smaller(LONGEST, smaller(texts, lists)) < question.len() {
         return headed(Head::Bad);
     }
     if question.len() == 0 {

@@ -96,113 +96,51 @@ fittedTo a units places numbers =
       negative = a .negative;
     }
 
--- the answer where so many bytes of a piece are taken
-abbrev pub placedAt : Answer → ℕ → Answer
-placedAt a at =
+-- the answer further on: whether it is begun and done, how much of the piece is taken, the text that is being put, the next text and number
+abbrev pub further : Answer → Bool → Bool → ℕ → Span → ℕ → ℕ → Answer
+further a begun done at span text number =
     record {
       head = a .head;
-      begun = a .begun;
-      done = a .done;
+      begun = begun;
+      done = done;
       at = at;
-      alone = a .alone;
-      from = a .from;
-      to = a .to;
-      text = a .text;
-      texts = a .texts;
-      number = a .number;
-      numbers = a .numbers;
-      negative = a .negative;
-    }
-
--- the answer once its front is put
-abbrev pub begunOf : Answer → Answer
-begunOf a =
-    record {
-      head = a .head;
-      begun = true;
-      done = a .done;
-      at = a .at;
-      alone = a .alone;
-      from = a .from;
-      to = a .to;
-      text = a .text;
-      texts = a .texts;
-      number = a .number;
-      numbers = a .numbers;
-      negative = a .negative;
-    }
-
--- the answer once a unit more is put
-abbrev pub unitOf : Answer → Answer
-unitOf a =
-    record {
-      head = a .head;
-      begun = a .begun;
-      done = a .done;
-      at = a .at;
-      alone = a .alone;
-      from = a .from + 1;
-      to = a .to;
-      text = a .text;
-      texts = a .texts;
-      number = a .number;
-      numbers = a .numbers;
-      negative = a .negative;
-    }
-
--- the answer once the next text of the table, a part of the lent units, is opened
-abbrev pub textOpened : Answer → Span → Answer
-textOpened a span =
-    record {
-      head = a .head;
-      begun = a .begun;
-      done = a .done;
-      at = a .at;
       alone = a .alone;
       from = span .from;
       to = span .to;
-      text = a .text + 1;
+      text = text;
       texts = a .texts;
-      number = a .number;
+      number = number;
       numbers = a .numbers;
       negative = a .negative;
     }
+
+-- the text of an answer that is being put
+abbrev pub spanOf : Answer → Span
+spanOf a = record { from = a .from; to = a .to }
+
+-- the answer where so many bytes of a piece are taken
+abbrev pub placedAt : Answer → ℕ → Answer
+placedAt a at = further a (a .begun) (a .done) at (spanOf a) (a .text) (a .number)
+
+-- the answer once its front is put
+abbrev pub begunOf : Answer → Answer
+begunOf a = further a true (a .done) (a .at) (spanOf a) (a .text) (a .number)
+
+-- the answer once a unit more is put
+abbrev pub unitOf : Answer → Answer
+unitOf a = further a (a .begun) (a .done) (a .at) (record { from = a .from + 1; to = a .to }) (a .text) (a .number)
+
+-- the answer once the next text of the table, a part of the lent units, is opened
+abbrev pub textOpened : Answer → Span → Answer
+textOpened a span = further a (a .begun) (a .done) (a .at) span (a .text + 1) (a .number)
 
 -- the answer once a number more is put
 abbrev pub numberPut : Answer → Answer
-numberPut a =
-    record {
-      head = a .head;
-      begun = a .begun;
-      done = a .done;
-      at = a .at;
-      alone = a .alone;
-      from = a .from;
-      to = a .to;
-      text = a .text;
-      texts = a .texts;
-      number = a .number + 1;
-      numbers = a .numbers;
-      negative = a .negative;
-    }
+numberPut a = further a (a .begun) (a .done) (a .at) (spanOf a) (a .text) (a .number + 1)
 
 -- the answer once all is put
 abbrev pub doneOf : Answer → Answer
-doneOf a =
-    record {
-      head = a .head;
-      begun = a .begun;
-      done = true;
-      at = a .at;
-      alone = a .alone;
-      from = a .from;
-      to = a .to;
-      text = a .text;
-      texts = a .texts;
-      number = a .number;
-      numbers = a .numbers;
-      negative = a .negative;
-    }
+doneOf a = further a (a .begun) true (a .at) (spanOf a) (a .text) (a .number)
 
 -- bytes are put, and the answer is the next one with the place behind them
 pub record Moved (bytes : List ℕ) (a next r : Answer) (before after : List ℕ) : Type 0 where

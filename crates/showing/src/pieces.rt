@@ -14,6 +14,7 @@ use crate::shows::put_bytes;
 use crate::shows::put_head;
 use crate::shows::put_signed;
 use crate::shows::put_unit;
+use units::parts::smaller;
 
 // An answer, and how far it is put into pieces.
 pub struct Answer {
@@ -67,24 +68,14 @@ fn clip(places: usize, start: usize, size: usize) -> Span
     }
 }
 
-// The smaller of two numbers.
-fn least(a: usize, b: usize) -> usize
-    ensures { λ r. ⌜ r ≡ min a b ⌝ }
-{
-    if a < b {
-        return a;
-    }
-    b
-}
-
 // The answer with its numbers cut to what is lent.
 fn fit(a: Answer, units: usize, places: usize, numbers: usize) -> Answer
     ensures { λ r. ⌜ r ≡ fittedTo a units places numbers ⌝ }
 {
     let mut r = a;
-    r.to = least(a.to, units);
-    r.texts = least(a.texts, places / 2);
-    r.numbers = least(a.numbers, numbers);
+    r.to = smaller(a.to, units);
+    r.texts = smaller(a.texts, places / 2);
+    r.numbers = smaller(a.numbers, numbers);
     r
 }
 

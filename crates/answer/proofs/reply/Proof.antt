@@ -1,3 +1,4 @@
+-- `answer::reply` meets its contract. Assumes nothing.
 use borrow.Author.Needs.{needs}
 use Rattle.answer.proofs.reply.Statement.{statement}
 use Rattle.answer.proofs.reply.Tie as tie
@@ -7,43 +8,35 @@ use Rattle.answer.proofs.show.Reads as show-reads
 use Rattle.questions.proofs.ask.Reads as ask-reads
 use Rattle.showing.proofs.pieces.placed.Reads as placed-reads
 
--- src/main.rt:56:9
 ask-requires : tie.Need-ask-requires
 ask-requires c κs = search needs
 
--- src/main.rt:57:10
 placed-requires : tie.Need-placed-requires
 placed-requires c κs = search needs
 
--- src/main.rt:57:5
 show-requires : tie.Need-show-requires
-show-requires c κs = rw (c .before .before .before .before .placed .ensures) (c .before .before .before .before .before .before .before .before .before .before .before .before .before .before .before .before .before .before .before .before .before .before .before .before .before .before .before .before .pre)
+show-requires c κs =
+    let entry = c .before .before .before .before .before .before .before .before .before .before .before .before .before .before .before .before .before .before .before .before .before .before .before .before .before .before .before .before in
+    rw (c .before .before .before .before .placed .ensures) (entry .pre)
 
--- src/main.rt:43:1
 same-length : tie.Need-same-length
 same-length c = search needs
 
--- src/main.rt:43:1
 same-length-2 : tie.Need-same-length-2
 same-length-2 c = search needs
 
--- src/main.rt:43:1
 same-length-3 : tie.Need-same-length-3
 same-length-3 c = search needs
 
--- src/main.rt:43:1
 same-length-4 : tie.Need-same-length-4
 same-length-4 c = search needs
 
--- src/main.rt:43:1
 same-length-5 : tie.Need-same-length-5
 same-length-5 c = search needs
 
--- src/main.rt:43:1
 same-length-6 : tie.Need-same-length-6
 same-length-6 c = search needs
 
--- src/main.rt:43:1
 returns : tie.Need-returns
 returns c = search needs
 

@@ -1,3 +1,4 @@
+-- `answer::show` meets its contract. Assumes nothing.
 use borrow.Author.Needs.{needs}
 use Prim.Native.Nat.{_+_, _-_, _<_, _≤_}
 use mathlib.Core.Path.{_∙_, _≡_, refl, sym}
@@ -19,62 +20,51 @@ Inv-loop numbers out spans piece₀ turns₀ r₀ piece turns r = (length piece 
 abbrev μ-loop : tie.MeasureT-loop
 μ-loop numbers out spans piece₀ turns₀ r₀ piece turns r = turns
 
--- src/main.rt:29:9
 go-on-requires : tie.Need-go-on-requires Inv-loop μ-loop
 go-on-requires c κs = search needs
 
--- src/main.rt:30:5
 loop-holds : tie.Need-loop-holds Inv-loop μ-loop
-loop-holds c = (refl, omega (arith, c .before .before .go-on .ensures .within (c .before .before .before .before .before .before .before .before .pre), c .before .before .go-on .ensures .same))
+loop-holds c =
+    let entry = c .before .before .before .before .before .before .before .before in
+    (refl, omega (arith, c .before .before .go-on .ensures .within (entry .pre), c .before .before .go-on .ensures .same))
 
--- src/main.rt:33:13
 same-length : tie.Need-same-length Inv-loop μ-loop
 same-length c = search needs
 
--- src/main.rt:33:13
 returns : tie.Need-returns Inv-loop μ-loop
 returns c = search needs
 
--- src/main.rt:35:9
 sub-turns : tie.Need-sub-turns Inv-loop μ-loop
 sub-turns c = search needs
 
--- src/main.rt:36:26
 slice-reshare-prefix-write-all : tie.Need-slice-reshare-prefix-write-all Inv-loop μ-loop
 slice-reshare-prefix-write-all c = search needs
 
--- src/main.rt:36:26
 slice-aggregate-write-all : tie.Need-slice-aggregate-write-all Inv-loop μ-loop
 slice-aggregate-write-all c = sym (length-take-le _ _ (c .before .before .before .loop .inv .1))
 
--- src/main.rt:36:9
 write-all-requires : tie.Need-write-all-requires Inv-loop μ-loop
 write-all-requires c κs = search needs
 
--- src/main.rt:37:19
 placed-requires : tie.Need-placed-requires Inv-loop μ-loop
 placed-requires c κs = search needs
 
--- src/main.rt:37:9
 go-on-requires-2 : tie.Need-go-on-requires-2 Inv-loop μ-loop
 go-on-requires-2 c κs = search needs
 
--- src/main.rt:30:5
 loop-less : tie.Need-loop-less Inv-loop μ-loop
 loop-less c = search needs
 
--- src/main.rt:30:5
 loop-again : tie.Need-loop-again Inv-loop μ-loop
 loop-again c =
+    let at-loop = c .before .before .before .before .before .before .before .before .before in
     let g = c .before .before .go-on2 .ensures in
     let w = rw (c .before .before .before .before .placed .ensures) at (g .within) in
-    (g .same ∙ c .before .before .before .before .before .before .before .before .before .loop .inv .0, omega (arith, w (omega arith), g .same))
+    (g .same ∙ at-loop .loop .inv .0, omega (arith, w (omega arith), g .same))
 
--- src/main.rt:24:1
 same-length-2 : tie.Need-same-length-2 Inv-loop μ-loop
 same-length-2 c = search needs
 
--- src/main.rt:24:1
 returns-2 : tie.Need-returns-2 Inv-loop μ-loop
 returns-2 c = search needs
 

@@ -1,3 +1,4 @@
+-- `answer::take_lines` meets its contract. Assumes nothing.
 use borrow.Author.Needs.{needs}
 use Prim.Native.Nat.{_-_, _<_, _≤_}
 use mathlib.Core.Path.{_∙_, _≡_, refl, sym}
@@ -20,71 +21,54 @@ abbrev μ-loop : tie.MeasureT-loop
 μ-loop chunk line₀ name₀ text₀ numbers₀ out₀ spans₀ piece₀ size₀ at₀ from₀ line name text numbers out spans piece size at from =
     length chunk - from
 
--- src/main.rt:108:5
 loop-holds : tie.Need-loop-holds Inv-loop μ-loop
 loop-holds c = search needs
 
--- src/main.rt:109:13
 gather-requires : tie.Need-gather-requires Inv-loop μ-loop
 gather-requires c κs = search needs
 
--- src/main.rt:113:24
 slice-reshare-prefix-reply : tie.Need-slice-reshare-prefix-reply Inv-loop μ-loop
 slice-reshare-prefix-reply c = search needs
 
--- src/main.rt:113:24
 slice-aggregate-reply : tie.Need-slice-aggregate-reply Inv-loop μ-loop
 slice-aggregate-reply c = sym (length-take-le _ _ (omega (arith, c .before .before .before .before .gather .ensures .0, c .before .before .before .before .gather .kept .1 .1 .0)))
 
--- src/main.rt:113:13
 reply-requires : tie.Need-reply-requires Inv-loop μ-loop
 reply-requires c κs = search needs
 
--- src/main.rt:108:5
 loop-less : tie.Need-loop-less Inv-loop μ-loop
 loop-less c = search needs
 
--- src/main.rt:108:5
 loop-again : tie.Need-loop-again Inv-loop μ-loop
 loop-again c = search needs
 
--- src/main.rt:108:5
 loop-less-2 : tie.Need-loop-less-2 Inv-loop μ-loop
 loop-less-2 c = search needs
 
--- src/main.rt:108:5
 loop-again-2 : tie.Need-loop-again-2 Inv-loop μ-loop
 loop-again-2 c = search needs
 
--- src/main.rt:91:1
 same-length : tie.Need-same-length Inv-loop μ-loop
 same-length c = search needs
 
--- src/main.rt:91:1
 same-length-2 : tie.Need-same-length-2 Inv-loop μ-loop
 same-length-2 c = search needs
 
--- src/main.rt:91:1
 same-length-3 : tie.Need-same-length-3 Inv-loop μ-loop
 same-length-3 c = search needs
 
--- src/main.rt:91:1
 same-length-4 : tie.Need-same-length-4 Inv-loop μ-loop
 same-length-4 c = search needs
 
--- src/main.rt:91:1
 same-length-5 : tie.Need-same-length-5 Inv-loop μ-loop
 same-length-5 c = search needs
 
--- src/main.rt:91:1
 same-length-6 : tie.Need-same-length-6 Inv-loop μ-loop
 same-length-6 c = search needs
 
--- src/main.rt:91:1
 same-length-7 : tie.Need-same-length-7 Inv-loop μ-loop
 same-length-7 c = search needs
 
--- src/main.rt:91:1
 returns : tie.Need-returns Inv-loop μ-loop
 returns c = search needs
 

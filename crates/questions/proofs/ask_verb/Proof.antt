@@ -1,186 +1,161 @@
+-- `questions::ask_verb` meets its contract. Assumes nothing.
 use borrow.Author.Needs.{needs}
 use Rattle.questions.specs.Verb.{verbAnswer}
 use Rattle.questions.proofs.ask_verb.Statement.{statement}
 use Rattle.questions.proofs.ask_verb.Tie as tie
 
--- src/verbs.rt:131:49
 enum-told : tie.Need-enum-told
 enum-told c = search needs
 
--- src/verbs.rt:131:23
 read-requires : tie.Need-read-requires
 read-requires c κs = search needs
 
--- src/verbs.rt:132:56
 enum-told-2 : tie.Need-enum-told-2
 enum-told-2 c = search needs
 
--- src/verbs.rt:132:23
 line-requires : tie.Need-line-requires
 line-requires c κs = search needs
 
--- src/verbs.rt:133:56
 enum-told-3 : tie.Need-enum-told-3
 enum-told-3 c = search needs
 
--- src/verbs.rt:133:24
 line-requires-2 : tie.Need-line-requires-2
 line-requires-2 c κs = search needs
 
--- src/verbs.rt:134:47
 enum-told-4 : tie.Need-enum-told-4
 enum-told-4 c = search needs
 
--- src/verbs.rt:134:22
 env-requires : tie.Need-env-requires
 env-requires c κs = search needs
 
--- src/verbs.rt:135:53
 enum-told-5 : tie.Need-enum-told-5
 enum-told-5 c = search needs
 
--- src/verbs.rt:135:25
 suffix-requires : tie.Need-suffix-requires
 suffix-requires c κs = search needs
 
--- src/verbs.rt:136:53
 enum-told-6 : tie.Need-enum-told-6
 enum-told-6 c = search needs
 
--- src/verbs.rt:136:25
 status-requires : tie.Need-status-requires
 status-requires c κs = search needs
 
--- src/verbs.rt:137:20
 enum-known-verb : tie.Need-enum-known-verb
 enum-known-verb c = search needs
 
--- src/verbs.rt:137:29
 ask-lent-requires : tie.Need-ask-lent-requires
 ask-lent-requires c κs = search needs
 
--- src/verbs.rt:117:1
 same-length : tie.Need-same-length
 same-length c = search needs
 
--- src/verbs.rt:117:1
 same-length-2 : tie.Need-same-length-2
 same-length-2 c = search needs
 
--- src/verbs.rt:117:1
 same-length-3 : tie.Need-same-length-3
 same-length-3 c = search needs
 
--- src/verbs.rt:117:1
 same-length-4 : tie.Need-same-length-4
 same-length-4 c = search needs
 
--- src/verbs.rt:117:1
 returns : tie.Need-returns
 unfolding verbAnswer
-returns c = rw (c .before .before .before .before .before .before .before .before .before .before .before .before .before .enum-told .given .1) (c .before .before .before .before .before .before .before .before .read .ensures _)
+returns c =
+    let at-read = c .before .before .before .before .before .before .before .before in
+    let at-enum-told = at-read .before .before .before .before .before in
+    rw (at-enum-told .enum-told .given .1) (at-read .read .ensures _)
 
--- src/verbs.rt:117:1
 same-length-5 : tie.Need-same-length-5
 same-length-5 c = search needs
 
--- src/verbs.rt:117:1
 same-length-6 : tie.Need-same-length-6
 same-length-6 c = search needs
 
--- src/verbs.rt:117:1
 same-length-7 : tie.Need-same-length-7
 same-length-7 c = search needs
 
--- src/verbs.rt:117:1
 same-length-8 : tie.Need-same-length-8
 same-length-8 c = search needs
 
--- src/verbs.rt:117:1
 returns-2 : tie.Need-returns-2
 unfolding verbAnswer
-returns-2 c = rw (c .before .before .before .before .before .before .before .before .before .before .before .before .before .enum-told2 .given .1) (c .before .before .before .before .before .before .before .before .line .ensures _)
+returns-2 c =
+    let at-line = c .before .before .before .before .before .before .before .before in
+    let at-enum-told2 = at-line .before .before .before .before .before in
+    rw (at-enum-told2 .enum-told2 .given .1) (at-line .line .ensures _)
 
--- src/verbs.rt:117:1
 same-length-9 : tie.Need-same-length-9
 same-length-9 c = search needs
 
--- src/verbs.rt:117:1
 same-length-10 : tie.Need-same-length-10
 same-length-10 c = search needs
 
--- src/verbs.rt:117:1
 same-length-11 : tie.Need-same-length-11
 same-length-11 c = search needs
 
--- src/verbs.rt:117:1
 same-length-12 : tie.Need-same-length-12
 same-length-12 c = search needs
 
--- src/verbs.rt:117:1
 returns-3 : tie.Need-returns-3
 unfolding verbAnswer
-returns-3 c = rw (c .before .before .before .before .before .before .before .before .before .before .before .before .before .enum-told3 .given .1) (c .before .before .before .before .before .before .before .before .line2 .ensures _)
+returns-3 c =
+    let at-line2 = c .before .before .before .before .before .before .before .before in
+    let at-enum-told3 = at-line2 .before .before .before .before .before in
+    rw (at-enum-told3 .enum-told3 .given .1) (at-line2 .line2 .ensures _)
 
--- src/verbs.rt:117:1
 same-length-13 : tie.Need-same-length-13
 same-length-13 c = search needs
 
--- src/verbs.rt:117:1
 same-length-14 : tie.Need-same-length-14
 same-length-14 c = search needs
 
--- src/verbs.rt:117:1
 same-length-15 : tie.Need-same-length-15
 same-length-15 c = search needs
 
--- src/verbs.rt:117:1
 returns-4 : tie.Need-returns-4
 unfolding verbAnswer
-returns-4 c = rw (c .before .before .before .before .before .before .before .before .before .before .enum-told4 .given .1) (c .before .before .before .before .before .before .env .ensures _)
+returns-4 c =
+    let at-env = c .before .before .before .before .before .before in
+    let at-enum-told4 = at-env .before .before .before .before in
+    rw (at-enum-told4 .enum-told4 .given .1) (at-env .env .ensures _)
 
--- src/verbs.rt:117:1
 same-length-16 : tie.Need-same-length-16
 same-length-16 c = search needs
 
--- src/verbs.rt:117:1
 returns-5 : tie.Need-returns-5
 unfolding verbAnswer
 returns-5 c = rw (c .before .before .before .before .enum-told5 .given .1) (c .before .before .suffix .ensures _ _ _)
 
--- src/verbs.rt:117:1
 same-length-17 : tie.Need-same-length-17
 same-length-17 c = search needs
 
--- src/verbs.rt:117:1
 same-length-18 : tie.Need-same-length-18
 same-length-18 c = search needs
 
--- src/verbs.rt:117:1
 returns-6 : tie.Need-returns-6
 unfolding verbAnswer
-returns-6 c = rw (c .before .before .before .before .before .before .before .enum-told6 .given .1) (c .before .before .before .before .status .ensures _)
+returns-6 c =
+    let at-enum-told6 = c .before .before .before .before .before .before .before in
+    rw (at-enum-told6 .enum-told6 .given .1) (c .before .before .before .before .status .ensures _)
 
--- src/verbs.rt:117:1
 same-length-19 : tie.Need-same-length-19
 same-length-19 c = search needs
 
--- src/verbs.rt:117:1
 same-length-20 : tie.Need-same-length-20
 same-length-20 c = search needs
 
--- src/verbs.rt:117:1
 same-length-21 : tie.Need-same-length-21
 same-length-21 c = search needs
 
--- src/verbs.rt:117:1
 same-length-22 : tie.Need-same-length-22
 same-length-22 c = search needs
 
--- src/verbs.rt:117:1
 returns-7 : tie.Need-returns-7
 unfolding verbAnswer
-returns-7 c = rw (c .before .before .before .before .before .before .before .before .before .before .before .before .before .before .verb .given .1) (c .before .before .before .before .before .before .before .before .ask-lent .ensures _)
+returns-7 c =
+    let at-ask-lent = c .before .before .before .before .before .before .before .before in
+    let at-verb = at-ask-lent .before .before .before .before .before .before in
+    rw (at-verb .verb .given .1) (at-ask-lent .ask-lent .ensures _)
 
 pub ask-verb-spec : {M : Type 1} → statement M
 ask-verb-spec =

@@ -1,3 +1,4 @@
+-- `questions::verb_of` meets its contract. Assumes nothing.
 use borrow.Author.Needs.{needs}
 use mathlib.Core.Path.{_∙_, sym}
 use Rattle.rules.specs.Unit.{units}
@@ -5,92 +6,106 @@ use Rattle.questions.specs.Verb.{verbOf}
 use Rattle.questions.proofs.verb_of.Statement.{statement}
 use Rattle.questions.proofs.verb_of.Tie as tie
 
--- src/verbs.rt:71:19
 slice-aggregate-same : tie.Need-slice-aggregate-same
 slice-aggregate-same c = search needs
 
--- src/verbs.rt:71:8
 same-requires : tie.Need-same-requires
 same-requires c κs = search needs
 
--- src/verbs.rt:72:9
 returns : tie.Need-returns
 unfolding verbOf units
 returns c = rw (sym (c .before .same .ensures) ∙ c .if1 .taken)
 
--- src/verbs.rt:74:19
 slice-aggregate-same-2 : tie.Need-slice-aggregate-same-2
 slice-aggregate-same-2 c = search needs
 
--- src/verbs.rt:74:8
 same-requires-2 : tie.Need-same-requires-2
 same-requires-2 c κs = search needs
 
--- src/verbs.rt:75:9
 returns-2 : tie.Need-returns-2
 unfolding verbOf units
 returns-2 c = rw (sym (c .before .before .before .before .same .ensures) ∙ c .before .before .before .if1 .left, sym (c .before .same2 .ensures) ∙ c .if2 .taken)
 
--- src/verbs.rt:77:19
 slice-aggregate-same-3 : tie.Need-slice-aggregate-same-3
 slice-aggregate-same-3 c = search needs
 
--- src/verbs.rt:77:8
 same-requires-3 : tie.Need-same-requires-3
 same-requires-3 c κs = search needs
 
--- src/verbs.rt:78:9
 returns-3 : tie.Need-returns-3
 unfolding verbOf units
-returns-3 c = rw (sym (c .before .before .before .before .before .before .before .same .ensures) ∙ c .before .before .before .before .before .before .if1 .left, sym (c .before .before .before .before .same2 .ensures) ∙ c .before .before .before .if2 .left, sym (c .before .same3 .ensures) ∙ c .if3 .taken)
+returns-3 c =
+    let at-if1 = c .before .before .before .before .before .before in
+    let at-same = at-if1 .before in
+    rw (sym (at-same .same .ensures) ∙ at-if1 .if1 .left, sym (c .before .before .before .before .same2 .ensures) ∙ c .before .before .before .if2 .left, sym (c .before .same3 .ensures) ∙ c .if3 .taken)
 
--- src/verbs.rt:80:19
 slice-aggregate-same-4 : tie.Need-slice-aggregate-same-4
 slice-aggregate-same-4 c = search needs
 
--- src/verbs.rt:80:8
 same-requires-4 : tie.Need-same-requires-4
 same-requires-4 c κs = search needs
 
--- src/verbs.rt:81:9
 returns-4 : tie.Need-returns-4
 unfolding verbOf units
-returns-4 c = rw (sym (c .before .before .before .before .before .before .before .before .before .before .same .ensures) ∙ c .before .before .before .before .before .before .before .before .before .if1 .left, sym (c .before .before .before .before .before .before .before .same2 .ensures) ∙ c .before .before .before .before .before .before .if2 .left, sym (c .before .before .before .before .same3 .ensures) ∙ c .before .before .before .if3 .left, sym (c .before .same4 .ensures) ∙ c .if4 .taken)
+returns-4 c =
+    let at-if2 = c .before .before .before .before .before .before in
+    let at-same2 = at-if2 .before in
+    let at-if1 = at-same2 .before .before in
+    let at-same = at-if1 .before in
+    rw (sym (at-same .same .ensures) ∙ at-if1 .if1 .left, sym (at-same2 .same2 .ensures) ∙ at-if2 .if2 .left, sym (c .before .before .before .before .same3 .ensures) ∙ c .before .before .before .if3 .left, sym (c .before .same4 .ensures) ∙ c .if4 .taken)
 
--- src/verbs.rt:83:19
 slice-aggregate-same-5 : tie.Need-slice-aggregate-same-5
 slice-aggregate-same-5 c = search needs
 
--- src/verbs.rt:83:8
 same-requires-5 : tie.Need-same-requires-5
 same-requires-5 c κs = search needs
 
--- src/verbs.rt:84:9
 returns-5 : tie.Need-returns-5
 unfolding verbOf units
-returns-5 c = rw (sym (c .before .before .before .before .before .before .before .before .before .before .before .before .before .same .ensures) ∙ c .before .before .before .before .before .before .before .before .before .before .before .before .if1 .left, sym (c .before .before .before .before .before .before .before .before .before .before .same2 .ensures) ∙ c .before .before .before .before .before .before .before .before .before .if2 .left, sym (c .before .before .before .before .before .before .before .same3 .ensures) ∙ c .before .before .before .before .before .before .if3 .left, sym (c .before .before .before .before .same4 .ensures) ∙ c .before .before .before .if4 .left, sym (c .before .same5 .ensures) ∙ c .if5 .taken)
+returns-5 c =
+    let at-if3 = c .before .before .before .before .before .before in
+    let at-same3 = at-if3 .before in
+    let at-if2 = at-same3 .before .before in
+    let at-same2 = at-if2 .before in
+    let at-if1 = at-same2 .before .before in
+    let at-same = at-if1 .before in
+    rw (sym (at-same .same .ensures) ∙ at-if1 .if1 .left, sym (at-same2 .same2 .ensures) ∙ at-if2 .if2 .left, sym (at-same3 .same3 .ensures) ∙ at-if3 .if3 .left, sym (c .before .before .before .before .same4 .ensures) ∙ c .before .before .before .if4 .left, sym (c .before .same5 .ensures) ∙ c .if5 .taken)
 
--- src/verbs.rt:86:19
 slice-aggregate-same-6 : tie.Need-slice-aggregate-same-6
 slice-aggregate-same-6 c = search needs
 
--- src/verbs.rt:86:8
 same-requires-6 : tie.Need-same-requires-6
 same-requires-6 c κs = search needs
 
--- src/verbs.rt:87:9
 returns-6 : tie.Need-returns-6
 unfolding verbOf units
-returns-6 c = rw (sym (c .before .before .before .before .before .before .before .before .before .before .before .before .before .before .before .before .same .ensures) ∙ c .before .before .before .before .before .before .before .before .before .before .before .before .before .before .before .if1 .left, sym (c .before .before .before .before .before .before .before .before .before .before .before .before .before .same2 .ensures) ∙ c .before .before .before .before .before .before .before .before .before .before .before .before .if2 .left, sym (c .before .before .before .before .before .before .before .before .before .before .same3 .ensures) ∙ c .before .before .before .before .before .before .before .before .before .if3 .left, sym (c .before .before .before .before .before .before .before .same4 .ensures) ∙ c .before .before .before .before .before .before .if4 .left, sym (c .before .before .before .before .same5 .ensures) ∙ c .before .before .before .if5 .left, sym (c .before .same6 .ensures) ∙ c .if6 .taken)
+returns-6 c =
+    let at-if4 = c .before .before .before .before .before .before in
+    let at-same4 = at-if4 .before in
+    let at-if3 = at-same4 .before .before in
+    let at-same3 = at-if3 .before in
+    let at-if2 = at-same3 .before .before in
+    let at-same2 = at-if2 .before in
+    let at-if1 = at-same2 .before .before in
+    let at-same = at-if1 .before in
+    rw (sym (at-same .same .ensures) ∙ at-if1 .if1 .left, sym (at-same2 .same2 .ensures) ∙ at-if2 .if2 .left, sym (at-same3 .same3 .ensures) ∙ at-if3 .if3 .left, sym (at-same4 .same4 .ensures) ∙ at-if4 .if4 .left, sym (c .before .before .before .before .same5 .ensures) ∙ c .before .before .before .if5 .left, sym (c .before .same6 .ensures) ∙ c .if6 .taken)
 
--- src/verbs.rt:89:16
 lent-verb-requires : tie.Need-lent-verb-requires
 lent-verb-requires c κs = search needs
 
--- src/verbs.rt:68:1
 returns-7 : tie.Need-returns-7
 unfolding verbOf units
-returns-7 c = rw (sym (c .before .before .before .before .before .before .before .before .before .before .before .before .before .before .before .before .before .same .ensures) ∙ c .before .before .before .before .before .before .before .before .before .before .before .before .before .before .before .before .if1 .left, sym (c .before .before .before .before .before .before .before .before .before .before .before .before .before .before .same2 .ensures) ∙ c .before .before .before .before .before .before .before .before .before .before .before .before .before .if2 .left, sym (c .before .before .before .before .before .before .before .before .before .before .before .same3 .ensures) ∙ c .before .before .before .before .before .before .before .before .before .before .if3 .left, sym (c .before .before .before .before .before .before .before .before .same4 .ensures) ∙ c .before .before .before .before .before .before .before .if4 .left, sym (c .before .before .before .before .before .same5 .ensures) ∙ c .before .before .before .before .if5 .left, sym (c .before .before .same6 .ensures) ∙ c .before .if6 .left, c .lent-verb .ensures)
+returns-7 c =
+    let at-same5 = c .before .before .before .before .before in
+    let at-if4 = at-same5 .before .before in
+    let at-same4 = at-if4 .before in
+    let at-if3 = at-same4 .before .before in
+    let at-same3 = at-if3 .before in
+    let at-if2 = at-same3 .before .before in
+    let at-same2 = at-if2 .before in
+    let at-if1 = at-same2 .before .before in
+    let at-same = at-if1 .before in
+    rw (sym (at-same .same .ensures) ∙ at-if1 .if1 .left, sym (at-same2 .same2 .ensures) ∙ at-if2 .if2 .left, sym (at-same3 .same3 .ensures) ∙ at-if3 .if3 .left, sym (at-same4 .same4 .ensures) ∙ at-if4 .if4 .left, sym (at-same5 .same5 .ensures) ∙ c .before .before .before .before .if5 .left, sym (c .before .before .same6 .ensures) ∙ c .before .if6 .left, c .lent-verb .ensures)
 
 pub verb-of-spec : {M : Type 1} → statement M
 verb-of-spec =

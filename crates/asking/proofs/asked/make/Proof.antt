@@ -1,28 +1,23 @@
+-- `asking::asked::make` meets its contract. Assumes nothing.
 use borrow.Author.Needs.{needs}
 use Rattle.asking.proofs.asked.make.Statement.{statement}
 use Rattle.asking.proofs.asked.make.Tie as tie
 
--- src/asked.rt:71:9
 make-bat-command-line-requires : tie.Need-make-bat-command-line-requires
 make-bat-command-line-requires c κs = search needs
 
--- src/asked.rt:71:9
 same-length : tie.Need-same-length
 same-length c = search needs
 
--- src/asked.rt:71:9
 returns : tie.Need-returns
 returns c = rw (c .before .before .before .before .if1 .taken) (c .before .before .make-bat-command-line .ensures)
 
--- src/asked.rt:73:5
 make-command-line-requires : tie.Need-make-command-line-requires
 make-command-line-requires c κs = search needs
 
--- src/asked.rt:60:1
 same-length-2 : tie.Need-same-length-2
 same-length-2 c = search needs
 
--- src/asked.rt:60:1
 returns-2 : tie.Need-returns-2
 returns-2 c = rw (c .before .before .before .before .if1 .left) (c .before .before .make-command-line .ensures)
 

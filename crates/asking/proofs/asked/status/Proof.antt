@@ -1,3 +1,4 @@
+-- `asking::asked::status` meets its contract. Assumes nothing.
 use borrow.Author.Needs.{needs}
 use mathlib.Core.Path.{_∙_, ap}
 use Rattle.asking.proofs.Asking.{count-ill, count-in, count-is, first-is, more-left, no-more, says-bad, says-taken}
@@ -12,80 +13,72 @@ use mir.Val.{SFits}
 use Rattle.asking.proofs.asked.status.Statement.{statement}
 use Rattle.asking.proofs.asked.status.Tie as tie
 
--- src/asked.rt:140:38
 next-number-requires : tie.Need-next-number-requires
 next-number-requires c κs = search needs
 
--- src/asked.rt:140:21
 enum-known-number : tie.Need-enum-known-number
 enum-known-number c = search needs
 
--- src/asked.rt:141:23
 enum-told : tie.Need-enum-told
 enum-told c = search needs
 
--- src/asked.rt:141:9
 headed-requires : tie.Need-headed-requires
 headed-requires c κs = search needs
 
--- src/asked.rt:141:9
 returns : tie.Need-returns
 unfolding statusAnswer
 returns c = λ spans. says-bad _ spans _ (c .headed .ensures) (count-ill (c .before .before .before .next-number .ensures) (c .before .enum-told .given .1) _)
 
--- src/asked.rt:144:9
 headed-requires-2 : tie.Need-headed-requires-2
 headed-requires-2 c κs = search needs
 
--- src/asked.rt:144:9
 returns-2 : tie.Need-returns-2
 unfolding statusAnswer
-returns-2 c = λ spans. says-bad _ spans _ (c .headed2 .ensures) (count-is (c .before .before .before .before .before .next-number .ensures) (c .before .before .before .number .given .1) _ ∙ more-left _ _ _ (c .before .if1 .taken))
+returns-2 c =
+    let at-next-number = c .before .before .before .before .before in
+    λ spans. says-bad _ spans _ (c .headed2 .ensures) (count-is (at-next-number .next-number .ensures) (c .before .before .before .number .given .1) _ ∙ more-left _ _ _ (c .before .if1 .taken))
 
--- src/asked.rt:146:18
 cast-status : tie.Need-cast-status
 cast-status c = omega (arith, count-in (c .before .before .before .before .next-number .ensures) (c .before .before .number .given .1))
 
--- src/asked.rt:147:9
 code-requires : tie.Need-code-requires
 code-requires c κs = search needs
 
--- src/asked.rt:148:28
 magnitude-requires : tie.Need-magnitude-requires
 magnitude-requires c κs = search needs
 
--- src/asked.rt:148:5
 put-number-requires : tie.Need-put-number-requires
 put-number-requires c κs = search needs
 
--- src/asked.rt:149:11
 status-text-requires : tie.Need-status-text-requires
 status-text-requires c κs = search needs
 
--- src/asked.rt:149:37
 is-negative-requires : tie.Need-is-negative-requires
 is-negative-requires c κs = search needs
 
--- src/asked.rt:149:5
 coded-requires : tie.Need-coded-requires
 coded-requires c κs = search needs
 
--- src/asked.rt:136:1
 same-length : tie.Need-same-length
 same-length c = search needs
 
--- src/asked.rt:136:1
 same-length-2 : tie.Need-same-length-2
 same-length-2 c = search needs
 
--- src/asked.rt:136:1
 returns-3 : tie.Need-returns-3
 unfolding statusAnswer
 returns-3 c =
-    let f : SFits w32 (c .before .before .before .before .before .before .before .before .before .before .before .code .result) = record { sfits = c .before .before .before .before .before .before .before .before .before .before .before .code .ok } in
-    let e = toZ-ofZ f ∙ c .before .before .before .before .before .before .before .before .before .before .before .code .ensures in
-    let m = first-is (c .before .before .before .before .before .before .before .before .before .before .before .before .before .before .before .before .before .before .before .before .args .numbers .now) (c .before .before .before .before .before .before .before .before .before .magnitude .result) (c .before .before .before .before .before .before .before .before .put-number .ensures) (c .before .before .before .before .before .before .before .before .before .magnitude .ensures ∙ ap natAbs e) (c .before .before .before .before .before .before .before .before .before .before .before .before .before .before .before .before .before .before .before .before .pre) in
-    λ spans. says-taken _ spans _ (c .coded .ensures .says _ spans _ ∙ status-says _ _ _ _ _ (c .before .before .before .before .status-text .ensures) (c .before .is-negative .ensures ∙ ap isNegative e) m) (count-is (c .before .before .before .before .before .before .before .before .before .before .before .before .before .before .before .before .next-number .ensures) (c .before .before .before .before .before .before .before .before .before .before .before .before .before .before .number .given .1) _ ∙ no-more _ _ _ (c .before .before .before .before .before .before .before .before .before .before .before .before .if1 .left))
+    let at-put-number = c .before .before .before .before .before .before .before .before in
+    let at-magnitude = at-put-number .before in
+    let at-code = at-magnitude .before .before in
+    let at-if1 = at-code .before in
+    let at-number = at-if1 .before .before in
+    let at-next-number = at-number .before .before in
+    let entry = at-next-number .before .before .before .before in
+    let f : SFits w32 (at-code .code .result) = record { sfits = at-code .code .ok } in
+    let e = toZ-ofZ f ∙ at-code .code .ensures in
+    let m = first-is (entry .args .numbers .now) (at-magnitude .magnitude .result) (at-put-number .put-number .ensures) (at-magnitude .magnitude .ensures ∙ ap natAbs e) (entry .pre) in
+    λ spans. says-taken _ spans _ (c .coded .ensures .says _ spans _ ∙ status-says _ _ _ _ _ (c .before .before .before .before .status-text .ensures) (c .before .is-negative .ensures ∙ ap isNegative e) m) (count-is (at-next-number .next-number .ensures) (at-number .number .given .1) _ ∙ no-more _ _ _ (at-if1 .if1 .left))
 
 pub status-spec : {M : Type 1} → statement M
 status-spec =

@@ -1,8 +1,8 @@
+-- `asking::replies::alone` meets its contract. Assumes nothing.
 use Rattle.asking.proofs.Replying.{alone-says}
 use Rattle.asking.proofs.replies.alone.Statement.{statement}
 use Rattle.asking.proofs.replies.alone.Tie as tie
 
--- src/replies.rt:38:1
 returns : tie.Need-returns
 returns c = alone-says _ _ _ _
 

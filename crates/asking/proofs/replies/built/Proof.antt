@@ -1,34 +1,28 @@
+-- `asking::replies::built` meets its contract. Assumes nothing.
 use borrow.Author.Needs.{needs}
 use Rattle.asking.specs.Reply.{builtBytes}
 use Rattle.asking.proofs.replies.built.Statement.{statement}
 use Rattle.asking.proofs.replies.built.Tie as tie
 
--- src/replies.rt:89:23
 enum-known-b : tie.Need-enum-known-b
 enum-known-b c = search needs
 
--- src/replies.rt:89:34
 alone-requires : tie.Need-alone-requires
 alone-requires c κs = search needs
 
--- src/replies.rt:90:24
 enum-known-b-2 : tie.Need-enum-known-b-2
 enum-known-b-2 c = search needs
 
--- src/replies.rt:90:37
 refused-requires : tie.Need-refused-requires
 refused-requires c κs = search needs
 
--- src/replies.rt:90:30
 headed-requires : tie.Need-headed-requires
 headed-requires c κs = search needs
 
--- src/replies.rt:85:1
 returns : tie.Need-returns
 unfolding builtBytes
 returns c = rw (c .before .before .b .given .1) (record { says = c .alone .ensures .says })
 
--- src/replies.rt:85:1
 returns-2 : tie.Need-returns-2
 unfolding builtBytes
 returns-2 c = rw (c .before .before .before .b2 .given .1) (record { says = (rw (c .before .refused .ensures) at (c .headed .ensures)) .says })

@@ -1,34 +1,28 @@
+-- `asking::replies::built_in` meets its contract. Assumes nothing.
 use borrow.Author.Needs.{needs}
 use Rattle.asking.specs.Reply.{lentBytes}
 use Rattle.asking.proofs.replies.built_in.Statement.{statement}
 use Rattle.asking.proofs.replies.built_in.Tie as tie
 
--- src/replies.rt:99:23
 enum-known-b : tie.Need-enum-known-b
 enum-known-b c = search needs
 
--- src/replies.rt:99:34
 alone-requires : tie.Need-alone-requires
 alone-requires c κs = search needs
 
--- src/replies.rt:100:24
 enum-known-b-2 : tie.Need-enum-known-b-2
 enum-known-b-2 c = search needs
 
--- src/replies.rt:100:36
 refused-requires : tie.Need-refused-requires
 refused-requires c κs = search needs
 
--- src/replies.rt:100:30
 alone-requires-2 : tie.Need-alone-requires-2
 alone-requires-2 c κs = search needs
 
--- src/replies.rt:95:1
 returns : tie.Need-returns
 unfolding lentBytes
 returns c = rw (c .before .before .b .given .1) (record { says = c .alone .ensures .says })
 
--- src/replies.rt:95:1
 returns-2 : tie.Need-returns-2
 unfolding lentBytes
 returns-2 c = rw (c .before .before .before .b2 .given .1) (record { says = (rw (c .before .refused .ensures) at (c .alone2 .ensures)) .says })

@@ -1,34 +1,28 @@
+-- `asking::replies::coded` meets its contract. Assumes nothing.
 use borrow.Author.Needs.{needs}
 use Rattle.asking.specs.Reply.{statusBytes}
 use Rattle.asking.proofs.replies.coded.Statement.{statement}
 use Rattle.asking.proofs.replies.coded.Tie as tie
 
--- src/replies.rt:134:23
 enum-known-b : tie.Need-enum-known-b
 enum-known-b c = search needs
 
--- src/replies.rt:134:34
 alone-requires : tie.Need-alone-requires
 alone-requires c κs = search needs
 
--- src/replies.rt:135:24
 enum-known-b-2 : tie.Need-enum-known-b-2
 enum-known-b-2 c = search needs
 
--- src/replies.rt:135:37
 refused-requires : tie.Need-refused-requires
 refused-requires c κs = search needs
 
--- src/replies.rt:135:30
 headed-requires : tie.Need-headed-requires
 headed-requires c κs = search needs
 
--- src/replies.rt:130:1
 returns : tie.Need-returns
 unfolding statusBytes
 returns c = rw (c .before .before .b .given .1) (record { says = c .alone .ensures .says })
 
--- src/replies.rt:130:1
 returns-2 : tie.Need-returns-2
 unfolding statusBytes
 returns-2 c = rw (c .before .before .before .b2 .given .1) (record { says = (rw (c .before .refused .ensures) at (c .headed .ensures)) .says })

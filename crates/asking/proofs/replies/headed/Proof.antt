@@ -1,8 +1,8 @@
+-- `asking::replies::headed` meets its contract. Assumes nothing.
 use Rattle.asking.proofs.Replying.{headed-says}
 use Rattle.asking.proofs.replies.headed.Statement.{statement}
 use Rattle.asking.proofs.replies.headed.Tie as tie
 
--- src/replies.rt:18:1
 returns : tie.Need-returns
 returns c = headed-says _
 

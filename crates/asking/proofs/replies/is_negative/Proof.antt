@@ -1,8 +1,8 @@
+-- `asking::replies::is_negative` meets its contract. Assumes nothing.
 use Rattle.asking.proofs.Signing.{sign-test}
 use Rattle.asking.proofs.replies.is_negative.Statement.{statement}
 use Rattle.asking.proofs.replies.is_negative.Tie as tie
 
--- src/replies.rt:140:1
 returns : tie.Need-returns
 returns c = sign-test _ (c .fits .code)
 

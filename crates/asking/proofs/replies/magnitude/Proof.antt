@@ -1,30 +1,25 @@
+-- `asking::replies::magnitude` meets its contract. Assumes nothing.
 use borrow.Author.Needs.{needs}
 use native.Mathlib.Omega.{arith}
 use Rattle.asking.proofs.Signing.{down-fits, down-is, some-magnitude, up-fits}
 use Rattle.asking.proofs.replies.magnitude.Statement.{statement}
 use Rattle.asking.proofs.replies.magnitude.Tie as tie
 
--- src/replies.rt:151:17
 sub-result : tie.Need-sub-result
 sub-result c = down-fits _ (c .before .fits .code) (c .if1 .taken)
 
--- src/replies.rt:151:16
 cast-result : tie.Need-cast-result
 cast-result c = rw (down-is _ (c .before .fits .code) (c .if1 .taken)) (tt, record { fits = omega (arith, some-magnitude _ (c .before .fits .code) (c .if1 .taken)) })
 
--- src/replies.rt:151:16
 add-result : tie.Need-add-result
 add-result c = rw (down-is _ (c .before .fits .code) (c .if1 .taken)) (record { fits = omega (arith, some-magnitude _ (c .before .fits .code) (c .if1 .taken)) })
 
--- src/replies.rt:151:9
 returns : tie.Need-returns
 returns c = rw (down-is _ (c .before .fits .code) (c .if1 .taken)) (omega (arith, some-magnitude _ (c .before .fits .code) (c .if1 .taken)))
 
--- src/replies.rt:153:5
 cast-result-2 : tie.Need-cast-result-2
 cast-result-2 c = up-fits _ (c .before .fits .code) (c .if1 .left)
 
--- src/replies.rt:147:1
 returns-2 : tie.Need-returns-2
 returns-2 c = search needs
 

@@ -1,34 +1,28 @@
+-- `asking::replies::parsed` meets its contract. Assumes nothing.
 use borrow.Author.Needs.{needs}
 use Rattle.asking.specs.Reply.{readBytes}
 use Rattle.asking.proofs.replies.parsed.Statement.{statement}
 use Rattle.asking.proofs.replies.parsed.Tie as tie
 
--- src/replies.rt:109:29
 enum-known-p : tie.Need-enum-known-p
 enum-known-p c = search needs
 
--- src/replies.rt:109:50
 tabled-requires : tie.Need-tabled-requires
 tabled-requires c κs = search needs
 
--- src/replies.rt:110:25
 enum-known-p-2 : tie.Need-enum-known-p-2
 enum-known-p-2 c = search needs
 
--- src/replies.rt:110:38
 refused-requires : tie.Need-refused-requires
 refused-requires c κs = search needs
 
--- src/replies.rt:110:31
 headed-requires : tie.Need-headed-requires
 headed-requires c κs = search needs
 
--- src/replies.rt:105:1
 returns : tie.Need-returns
 unfolding readBytes
 returns c = rw (c .before .before .p .given .1) (record { says = c .tabled .ensures .says })
 
--- src/replies.rt:105:1
 returns-2 : tie.Need-returns-2
 unfolding readBytes
 returns-2 c = rw (c .before .before .before .p2 .given .1) (record { says = (rw (c .before .refused .ensures) at (c .headed .ensures)) .says })

@@ -1,34 +1,28 @@
+-- `asking::replies::parsed_in` meets its contract. Assumes nothing.
 use borrow.Author.Needs.{needs}
 use Rattle.asking.specs.Reply.{lentReadBytes}
 use Rattle.asking.proofs.replies.parsed_in.Statement.{statement}
 use Rattle.asking.proofs.replies.parsed_in.Tie as tie
 
--- src/replies.rt:119:36
 enum-known-p : tie.Need-enum-known-p
 enum-known-p c = search needs
 
--- src/replies.rt:119:58
 alone-requires : tie.Need-alone-requires
 alone-requires c κs = search needs
 
--- src/replies.rt:125:25
 enum-known-p-2 : tie.Need-enum-known-p-2
 enum-known-p-2 c = search needs
 
--- src/replies.rt:125:37
 refused-requires : tie.Need-refused-requires
 refused-requires c κs = search needs
 
--- src/replies.rt:125:31
 alone-requires-2 : tie.Need-alone-requires-2
 alone-requires-2 c κs = search needs
 
--- src/replies.rt:115:1
 returns : tie.Need-returns
 unfolding lentReadBytes
 returns c = rw (c .before .before .p .given .1) (record { says = c .alone .ensures .says })
 
--- src/replies.rt:115:1
 returns-2 : tie.Need-returns-2
 unfolding lentReadBytes
 returns-2 c = rw (c .before .before .before .p2 .given .1) (record { says = (rw (c .before .refused .ensures) at (c .alone2 .ensures)) .says })

@@ -1,8 +1,8 @@
+-- `asking::replies::tabled` meets its contract. Assumes nothing.
 use Rattle.asking.proofs.Replying.{tabled-says}
 use Rattle.asking.proofs.replies.tabled.Statement.{statement}
 use Rattle.asking.proofs.replies.tabled.Tie as tie
 
--- src/replies.rt:58:1
 returns : tie.Need-returns
 returns c = tabled-says _ _
 

@@ -1,3 +1,4 @@
+-- `lexing::forms::hex_value` meets its contract. Assumes nothing.
 use borrow.Author.Needs.{needs}
 use borrow.Author.Tests.{le-leb, lt-leb}
 use native.Mathlib.Omega.{arith}
@@ -5,39 +6,31 @@ use Rattle.lexing.specs.Form.{hexValue}
 use Rattle.lexing.proofs.forms.hex_value.Statement.{statement}
 use Rattle.lexing.proofs.forms.hex_value.Tie as tie
 
--- src/forms.rt:46:9
 returns : tie.Need-returns
 unfolding hexValue
 returns c = simp (lt-leb 48 _ (c .if1 .taken), lt-leb 97 (c .before .args .byte) (omega arith))
 
--- src/forms.rt:49:16
 cast-result : tie.Need-cast-result
 cast-result c = search needs
 
--- src/forms.rt:49:9
 returns-2 : tie.Need-returns-2
 unfolding hexValue
 returns-2 c = simp (le-leb 48 _ (c .before .if1 .left), le-leb _ 57 (c .if2 .taken))
 
--- src/forms.rt:52:9
 returns-3 : tie.Need-returns-3
 unfolding hexValue
 returns-3 c = simp (le-leb 48 _ (c .before .before .if1 .left), lt-leb _ 57 (c .before .if2 .left), lt-leb 97 _ (c .if3 .taken))
 
--- src/forms.rt:55:17
 sub-result : tie.Need-sub-result
 sub-result c = search needs
 
--- src/forms.rt:55:16
 cast-result-2 : tie.Need-cast-result-2
 cast-result-2 c = search needs
 
--- src/forms.rt:55:9
 returns-4 : tie.Need-returns-4
 unfolding hexValue
 returns-4 c = simp (le-leb 48 _ (c .before .before .before .if1 .left), lt-leb _ 57 (c .before .before .if2 .left), le-leb 97 _ (c .before .if3 .left), le-leb _ 102 (c .if4 .taken))
 
--- src/forms.rt:42:1
 returns-5 : tie.Need-returns-5
 unfolding hexValue
 returns-5 c = simp (le-leb 48 _ (c .before .before .before .if1 .left), lt-leb _ 57 (c .before .before .if2 .left), le-leb 97 _ (c .before .if3 .left), lt-leb _ 102 (c .if4 .left))

@@ -1,3 +1,4 @@
+-- `lexing::forms::step_inside` meets its contract. Assumes nothing.
 use borrow.Author.Needs.{needs}
 use mathlib.Core.Path.{_∙_, sym}
 use borrow.Author.Tests.{eq-eqb, le-leb, le-ltb, lt-leb, lt-ltb, ne-eqb}
@@ -5,45 +6,39 @@ use native.Mathlib.Omega.{arith}
 use Rattle.lexing.proofs.forms.step_inside.Statement.{statement}
 use Rattle.lexing.proofs.forms.step_inside.Tie as tie
 
--- src/forms.rt:90:12
 is-plain-requires : tie.Need-is-plain-requires
 is-plain-requires c κs = search needs
 
--- src/forms.rt:91:13
 returns : tie.Need-returns
 returns c = rw (eq-eqb _ 125 (c .before .before .if1 .taken), sym (c .before .is-plain .ensures) ∙ c .if2 .taken)
 
--- src/forms.rt:93:9
 returns-2 : tie.Need-returns-2
 returns-2 c = rw (eq-eqb _ 125 (c .before .before .if1 .taken), sym (c .before .is-plain .ensures) ∙ c .if2 .left)
 
--- src/forms.rt:96:9
 returns-3 : tie.Need-returns-3
 returns-3 c = rw (ne-eqb _ 125 (c .before .if1 .left), c .if3 .taken)
 
--- src/forms.rt:99:9
 returns-4 : tie.Need-returns-4
 returns-4 c = rw (ne-eqb _ 125 (c .before .before .if1 .left), lt-ltb 0 (c .before .before .before .args .value) (omega arith), lt-leb _ 4095 (c .if4 .taken))
 
--- src/forms.rt:101:9
 hex-value-requires : tie.Need-hex-value-requires
 hex-value-requires c κs = search needs
 
--- src/forms.rt:103:41
 mul-t7 : tie.Need-mul-t7
 mul-t7 c = search needs
 
--- src/forms.rt:103:41
 add-t8 : tie.Need-add-t8
 add-t8 c = search needs
 
--- src/forms.rt:103:9
 returns-5 : tie.Need-returns-5
-returns-5 c = rw (ne-eqb _ 125 (c .before .before .before .before .if1 .left), lt-ltb 0 (c .before .before .before .before .before .args .value) (omega arith), le-leb _ 4095 (c .before .before .if4 .left), ← c .before .hex-value .ensures, lt-ltb _ 16 (c .if5 .taken))
+returns-5 c =
+    let entry = c .before .before .before .before .before in
+    rw (ne-eqb _ 125 (c .before .before .before .before .if1 .left), lt-ltb 0 (entry .args .value) (omega arith), le-leb _ 4095 (c .before .before .if4 .left), ← c .before .hex-value .ensures, lt-ltb _ 16 (c .if5 .taken))
 
--- src/forms.rt:86:1
 returns-6 : tie.Need-returns-6
-returns-6 c = rw (ne-eqb _ 125 (c .before .before .before .before .if1 .left), lt-ltb 0 (c .before .before .before .before .before .args .value) (omega arith), le-leb _ 4095 (c .before .before .if4 .left), ← c .before .hex-value .ensures, le-ltb _ 16 (c .if5 .left))
+returns-6 c =
+    let entry = c .before .before .before .before .before in
+    rw (ne-eqb _ 125 (c .before .before .before .before .if1 .left), lt-ltb 0 (entry .args .value) (omega arith), le-leb _ 4095 (c .before .before .if4 .left), ← c .before .hex-value .ensures, le-ltb _ 16 (c .if5 .left))
 
 pub step-inside-spec : {M : Type 1} → statement M
 step-inside-spec =

@@ -1,18 +1,16 @@
+-- `lexing::forms::step_opened` meets its contract. Assumes nothing.
 use borrow.Author.Needs.{needs}
 use borrow.Author.Tests.{le-ltb, lt-ltb}
 use mathlib.Core.Path.{sym}
 use Rattle.lexing.proofs.forms.step_opened.Statement.{statement}
 use Rattle.lexing.proofs.forms.step_opened.Tie as tie
 
--- src/forms.rt:78:9
 hex-value-requires : tie.Need-hex-value-requires
 hex-value-requires c κs = search needs
 
--- src/forms.rt:80:9
 returns : tie.Need-returns
 returns c = simp (sym (c .before .hex-value .ensures), lt-ltb _ 16 (c .if1 .taken))
 
--- src/forms.rt:75:1
 returns-2 : tie.Need-returns-2
 returns-2 c = simp (sym (c .before .hex-value .ensures), le-ltb _ 16 (c .if1 .left))
 

@@ -1,40 +1,32 @@
+-- `lexing::forms::take_byte` meets its contract. Assumes nothing.
 use borrow.Author.Needs.{needs}
 use Rattle.lexing.proofs.forms.take_byte.Statement.{statement}
 use Rattle.lexing.proofs.forms.take_byte.Tie as tie
 
--- src/forms.rt:113:26
 enum-told : tie.Need-enum-told
 enum-told c = search needs
 
--- src/forms.rt:113:26
 step-outside-requires : tie.Need-step-outside-requires
 step-outside-requires c κs = search needs
 
--- src/forms.rt:114:25
 enum-told-2 : tie.Need-enum-told-2
 enum-told-2 c = search needs
 
--- src/forms.rt:114:25
 step-opened-requires : tie.Need-step-opened-requires
 step-opened-requires c κs = search needs
 
--- src/forms.rt:115:22
 enum-known-spot : tie.Need-enum-known-spot
 enum-known-spot c = search needs
 
--- src/forms.rt:115:32
 step-inside-requires : tie.Need-step-inside-requires
 step-inside-requires c κs = search needs
 
--- src/forms.rt:109:1
 returns : tie.Need-returns
 returns c = rw (c .before .enum-told .given .1) (c .step-outside .ensures)
 
--- src/forms.rt:109:1
 returns-2 : tie.Need-returns-2
 returns-2 c = rw (c .before .enum-told2 .given .1) (c .step-opened .ensures)
 
--- src/forms.rt:109:1
 returns-3 : tie.Need-returns-3
 returns-3 c = rw (c .before .before .spot .given .1) (c .step-inside .ensures)
 

@@ -1,3 +1,4 @@
+-- `lexing::lists::put_entry` meets its contract. Assumes nothing.
 use borrow.Author.Needs.{needs}
 use native.Mathlib.Omega.{arith}
 use mathlib.Core.Path.{_≡_}
@@ -5,48 +6,40 @@ use Prim.Native.Nat.{_+_, suc}
 use Rattle.lexing.proofs.lists.put_entry.Statement.{statement}
 use Rattle.lexing.proofs.lists.put_entry.Tie as tie
 
--- src/lists.rt:52:28
 cast-put-three : tie.Need-cast-put-three
 cast-put-three c = search needs
 
--- src/lists.rt:52:42
 cast-put-three-2 : tie.Need-cast-put-three-2
 cast-put-three-2 c = search needs
 
--- src/lists.rt:52:55
 add-put-three : tie.Need-add-put-three
 add-put-three c = search needs
 
--- src/lists.rt:52:54
 cast-put-three-3 : tie.Need-cast-put-three-3
 cast-put-three-3 c = search needs
 
--- src/lists.rt:52:5
 put-three-requires : tie.Need-put-three-requires
 put-three-requires c κs = search needs
 
--- src/lists.rt:53:25
 add-put-number : tie.Need-add-put-number
 add-put-number c = search needs
 
--- src/lists.rt:53:33
 cast-put-number : tie.Need-cast-put-number
 cast-put-number c = search needs
 
--- src/lists.rt:53:5
 put-number-requires : tie.Need-put-number-requires
 put-number-requires c κs = search needs
 
--- src/lists.rt:48:1
 same-length : tie.Need-same-length
 same-length c = search needs
 
--- src/lists.rt:48:1
 returns : tie.Need-returns
 returns c =
-    let at = c .before .before .before .before .before .before .before .before .before .args .at in
+    let at-put-three = c .before .before .before .before .before .before in
+    let entry = at-put-three .before .before .before in
+    let at = entry .args .at in
     let e : at + 3 ≡ suc (suc (suc at)) = omega arith in
-    rw (← e, ← c .before .before .before .before .before .before .put-three .ensures) (c .before .before .put-number .ensures)
+    rw (← e, ← at-put-three .put-three .ensures) (c .before .before .put-number .ensures)
 
 pub put-entry-spec : {M : Type 1} → statement M
 put-entry-spec =

@@ -1,3 +1,4 @@
+-- `lexing::lists::take_arguments` meets its contract. Assumes nothing.
 use borrow.Author.Needs.{needs}
 use Prim.Native.Nat.{_+_, _-_, _≤_}
 use lib.ListN.{length}
@@ -15,119 +16,127 @@ Inv-loop question start text₀ numbers₀ at₀ to₀ n₀ text numbers at to n
 abbrev μ-loop : tie.MeasureT-loop
 μ-loop question start text₀ numbers₀ at₀ to₀ n₀ text numbers at to n = length question + 1 - at
 
--- src/lists.rt:99:5
 loop-holds : tie.Need-loop-holds Inv-loop μ-loop
 loop-holds c = (c .before .before .before .pre, none-gathered _ _ _ _ _ (c .before .before .before .pre .begun))
 
--- src/lists.rt:100:13
 word-end-requires : tie.Need-word-end-requires Inv-loop μ-loop
 word-end-requires c κs = search needs
 
--- src/lists.rt:101:25
 sub-take-kind : tie.Need-sub-take-kind Inv-loop μ-loop
 sub-take-kind c = search needs
 
--- src/lists.rt:101:25
 part-take-kind-start : tie.Need-part-take-kind-start Inv-loop μ-loop
 part-take-kind-start c = search needs
 
--- src/lists.rt:101:25
 part-take-kind-end : tie.Need-part-take-kind-end Inv-loop μ-loop
 part-take-kind-end c = search needs
 
--- src/lists.rt:101:15
 take-kind-requires : tie.Need-take-kind-requires Inv-loop μ-loop
 take-kind-requires c κs =
+    let entry = c .before .before .before .before .before .before .before .before in
     let i = c .before .before .before .before .loop .inv in
     let e = c .before .before .word-end .ensures in
-    omega (arith, length-part (c .before .before .before .before .before .before .before .before .args .question .now) (c .before .before .before .before .loop .at) (c .before .before .word-end .result), e .within, e .behind, i .0 .texts, i .1 .units, i .1 .sameText)
+    omega (arith, length-part (entry .args .question .now) (c .before .before .before .before .loop .at) (c .before .before .word-end .result), e .within, e .behind, i .0 .texts, i .1 .units, i .1 .sameText)
 
--- src/lists.rt:102:24
 enum-known-kind : tie.Need-enum-known-kind Inv-loop μ-loop
 enum-known-kind c = search needs
 
--- src/lists.rt:103:45
 cast-put-three : tie.Need-cast-put-three Inv-loop μ-loop
 cast-put-three c =
-    let i = c .before .before .before .before .before .before .before .before .before .before .before .loop .inv in
-    omega (arith, i .0 .few, i .1 .units, c .before .before .before .before .before .before .before .before .before .before .loop-test .taken)
+    let at-loop-test = c .before .before .before .before .before .before .before .before .before .before in
+    let at-loop = at-loop-test .before in
+    let i = at-loop .loop .inv in
+    omega (arith, i .0 .few, i .1 .units, at-loop-test .loop-test .taken)
 
--- src/lists.rt:103:56
 cast-put-three-2 : tie.Need-cast-put-three-2 Inv-loop μ-loop
 cast-put-three-2 c =
-    let i = c .before .before .before .before .before .before .before .before .before .before .before .loop .inv in
-    let e = c .before .before .before .before .before .before .before .before .before .word-end .ensures in
-    let m = argument-room e (i .1 .counts) (i .1 .units) (rw (c .before .before .kind .given .1) at (c .before .before .before .before .before .before .take-kind .ensures)) in
+    let at-take-kind = c .before .before .before .before .before .before in
+    let at-word-end = at-take-kind .before .before .before in
+    let at-loop = at-word-end .before .before in
+    let i = at-loop .loop .inv in
+    let e = at-word-end .word-end .ensures in
+    let m = argument-room e (i .1 .counts) (i .1 .units) (rw (c .before .before .kind .given .1) at (at-take-kind .take-kind .ensures)) in
     omega (arith, m .0, e .within, i .0 .few)
 
--- src/lists.rt:103:17
 put-three-requires : tie.Need-put-three-requires Inv-loop μ-loop
 put-three-requires c κs =
-    let i = c .before .before .before .before .before .before .before .before .before .before .before .loop .inv in
-    let e = c .before .before .before .before .before .before .before .before .before .word-end .ensures in
-    let m = argument-room e (i .1 .counts) (i .1 .units) (rw (c .before .before .kind .given .1) at (c .before .before .before .before .before .before .take-kind .ensures)) in
+    let at-take-kind = c .before .before .before .before .before .before in
+    let at-word-end = at-take-kind .before .before .before in
+    let at-loop = at-word-end .before .before in
+    let i = at-loop .loop .inv in
+    let e = at-word-end .word-end .ensures in
+    let m = argument-room e (i .1 .counts) (i .1 .units) (rw (c .before .before .kind .given .1) at (at-take-kind .take-kind .ensures)) in
     omega (arith, m .1, e .within, i .0 .lists, i .1 .sameNumbers)
 
--- src/lists.rt:104:17
 add-n : tie.Need-add-n Inv-loop μ-loop
 add-n c =
-    let i = c .before .before .before .before .before .before .before .before .before .before .before .before .before .before .loop .inv in
-    let e = c .before .before .before .before .before .before .before .before .before .before .before .before .word-end .ensures in
-    omega (arith, i .1 .counts, c .before .before .before .before .before .before .before .before .before .before .before .before .before .loop-test .taken, c .before .before .before .before .before .before .before .before .before .before .before .before .before .before .before .before .before .before .good)
+    let at-word-end = c .before .before .before .before .before .before .before .before .before .before .before .before in
+    let at-loop-test = at-word-end .before in
+    let at-loop = at-loop-test .before in
+    let at-good = at-loop .before .before .before .before in
+    let i = at-loop .loop .inv in
+    let e = at-word-end .word-end .ensures in
+    omega (arith, i .1 .counts, at-loop-test .loop-test .taken, at-good .good)
 
--- src/lists.rt:105:17
 add-to : tie.Need-add-to Inv-loop μ-loop
 add-to c =
-    let i = c .before .before .before .before .before .before .before .before .before .before .before .before .before .before .loop .inv in
-    let e = c .before .before .before .before .before .before .before .before .before .before .before .before .word-end .ensures in
-    let m = argument-room e (i .1 .counts) (i .1 .units) (rw (c .before .before .before .before .before .kind .given .1) at (c .before .before .before .before .before .before .before .before .before .take-kind .ensures)) in
-    omega (arith, m .0, e .within, c .before .before .before .before .before .before .before .before .before .before .before .before .before .before .before .before .before .before .good)
+    let at-kind = c .before .before .before .before .before in
+    let at-take-kind = at-kind .before .before .before .before in
+    let at-word-end = at-take-kind .before .before .before in
+    let at-loop = at-word-end .before .before in
+    let at-good = at-loop .before .before .before .before in
+    let i = at-loop .loop .inv in
+    let e = at-word-end .word-end .ensures in
+    let m = argument-room e (i .1 .counts) (i .1 .units) (rw (at-kind .kind .given .1) at (at-take-kind .take-kind .ensures)) in
+    omega (arith, m .0, e .within, at-good .good)
 
--- src/lists.rt:106:22
 add-at : tie.Need-add-at Inv-loop μ-loop
-add-at c = omega (arith, c .before .before .before .before .before .before .before .before .before .before .before .before .word-end .ensures .within, c .before .before .before .before .before .before .before .before .before .before .before .before .before .before .before .before .before .before .good)
+add-at c =
+    let at-word-end = c .before .before .before .before .before .before .before .before .before .before .before .before in
+    let at-good = at-word-end .before .before .before .before .before .before in
+    omega (arith, at-word-end .word-end .ensures .within, at-good .good)
 
--- src/lists.rt:99:5
 loop-less : tie.Need-loop-less Inv-loop μ-loop
-loop-less c = omega (arith, c .before .before .before .before .before .before .before .before .before .before .before .before .word-end .ensures .within, c .before .before .before .before .before .before .before .before .before .before .before .before .word-end .ensures .behind)
+loop-less c =
+    let at-word-end = c .before .before .before .before .before .before .before .before .before .before .before .before in
+    omega (arith, at-word-end .word-end .ensures .within, at-word-end .word-end .ensures .behind)
 
--- src/lists.rt:99:5
 loop-again : tie.Need-loop-again Inv-loop μ-loop
 loop-again c =
-    let l = c .before .before .before .before .before .before .before .before .before .before .before .before .before .before .loop in
+    let at-kind = c .before .before .before .before .before in
+    let at-take-kind = at-kind .before .before .before .before in
+    let at-word-end = at-take-kind .before .before .before in
+    let at-loop = at-word-end .before .before in
+    let l = at-loop .loop in
     let i = l .inv in
-    let e = c .before .before .before .before .before .before .before .before .before .before .before .before .word-end .ensures in
-    let k = rw (c .before .before .before .before .before .kind .given .1) at (c .before .before .before .before .before .before .before .before .before .take-kind .ensures) in
+    let e = at-word-end .word-end .ensures in
+    let k = rw (at-kind .kind .given .1) at (at-take-kind .take-kind .ensures) in
     let m = argument-room e (i .1 .counts) (i .1 .units) k in
     let h : l .n + 3 ≤ length (l .numbers) = omega (arith, m .1, e .within, i .0 .lists, i .1 .sameNumbers) in
     let s = argument-step e (l .numbers) (l .n) k (c .before .before .put-three .ensures) h (omega (arith, m .0, e .within, i .0 .texts, i .1 .sameText)) in
     (i .0, one-gathered (i .1) (omega (arith, m .1)) (omega (arith, m .0)) (omega (arith, m .1, e .within, i .0 .lists)) (omega (arith, m .0, e .within, i .0 .texts)) (k .same) (c .before .before .put-three .kept .0) s)
 
--- src/lists.rt:109:17
 enum-told : tie.Need-enum-told Inv-loop μ-loop
 enum-told c = search needs
 
--- src/lists.rt:109:17
 same-length : tie.Need-same-length Inv-loop μ-loop
 same-length c = search needs
 
--- src/lists.rt:109:17
 same-length-2 : tie.Need-same-length-2 Inv-loop μ-loop
 same-length-2 c = search needs
 
--- src/lists.rt:109:17
 returns : tie.Need-returns Inv-loop μ-loop
-returns c = none-listed (c .before .before .before .before .before .before .before .before .before .loop .inv .1) (c .before .before .before .before .take-kind .ensures .same) (argument-ill (c .before .before .before .before .before .before .before .word-end .ensures) (c .before .before .before .before .before .before .before .before .before .loop .numbers) (c .before .before .before .before .before .before .before .before .before .loop .n) (rw (c .enum-told .given .1) at (c .before .before .before .before .take-kind .ensures)))
+returns c =
+    let at-word-end = c .before .before .before .before .before .before .before in
+    let at-loop = at-word-end .before .before in
+    none-listed (at-loop .loop .inv .1) (c .before .before .before .before .take-kind .ensures .same) (argument-ill (at-word-end .word-end .ensures) (at-loop .loop .numbers) (at-loop .loop .n) (rw (c .enum-told .given .1) at (c .before .before .before .before .take-kind .ensures)))
 
--- src/lists.rt:87:1
 same-length-3 : tie.Need-same-length-3 Inv-loop μ-loop
 same-length-3 c = search needs
 
--- src/lists.rt:87:1
 same-length-4 : tie.Need-same-length-4 Inv-loop μ-loop
 same-length-4 c = search needs
 
--- src/lists.rt:87:1
 returns-2 : tie.Need-returns-2 Inv-loop μ-loop
 unfolding argumentsFrom
 returns-2 c = all-listed (c .before .loop .inv .1) (c .loop-test .left) refl

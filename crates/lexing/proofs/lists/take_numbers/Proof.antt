@@ -1,3 +1,4 @@
+-- `lexing::lists::take_numbers` meets its contract. Assumes nothing.
 use borrow.Author.Needs.{needs}
 use Prim.Native.Nat.{_+_, _-_, _≤_}
 use lib.ListN.{length}
@@ -17,81 +18,69 @@ Inv-loop question start numbers₀ at₀ n₀ numbers at n = (length question �
 abbrev μ-loop : tie.MeasureT-loop
 μ-loop question start numbers₀ at₀ n₀ numbers at n = length question + 1 - at
 
--- src/lists.rt:160:5
 loop-holds : tie.Need-loop-holds Inv-loop μ-loop
 loop-holds c = search needs
 
--- src/lists.rt:161:13
 word-end-requires : tie.Need-word-end-requires Inv-loop μ-loop
 word-end-requires c κs = search needs
 
--- src/lists.rt:162:25
 sub-number-of : tie.Need-sub-number-of Inv-loop μ-loop
 sub-number-of c = search needs
 
--- src/lists.rt:162:25
 part-number-of-start : tie.Need-part-number-of-start Inv-loop μ-loop
 part-number-of-start c = search needs
 
--- src/lists.rt:162:25
 part-number-of-end : tie.Need-part-number-of-end Inv-loop μ-loop
 part-number-of-end c = search needs
 
--- src/lists.rt:162:15
 number-of-requires : tie.Need-number-of-requires Inv-loop μ-loop
 number-of-requires c κs = search needs
 
--- src/lists.rt:163:24
 enum-known-number : tie.Need-enum-known-number Inv-loop μ-loop
 enum-known-number c = search needs
 
--- src/lists.rt:164:40
 cast-put-number : tie.Need-cast-put-number Inv-loop μ-loop
 cast-put-number c = omega (arith, number-within 4294967295 _ (ap numberSaid (sym (c .before .before .number .given .1)) ∙ c .before .before .before .before .number-of .ensures))
 
--- src/lists.rt:164:17
 put-number-requires : tie.Need-put-number-requires Inv-loop μ-loop
 put-number-requires c κs = search needs
 
--- src/lists.rt:165:17
 add-n : tie.Need-add-n Inv-loop μ-loop
 add-n c = search needs
 
--- src/lists.rt:166:22
 add-at : tie.Need-add-at Inv-loop μ-loop
 add-at c = search needs
 
--- src/lists.rt:160:5
 loop-less : tie.Need-loop-less Inv-loop μ-loop
 loop-less c = search needs
 
--- src/lists.rt:160:5
 loop-again : tie.Need-loop-again Inv-loop μ-loop
 loop-again c =
-    let l = c .before .before .before .before .before .before .before .before .before .before .before .loop in
+    let at-number = c .before .before .before .before .before in
+    let at-number-of = at-number .before .before in
+    let at-word-end = at-number-of .before .before in
+    let at-loop = at-word-end .before .before in
+    let l = at-loop .loop in
     let i = l .inv in
-    let e = c .before .before .before .before .before .before .before .before .before .word-end .ensures in
+    let e = at-word-end .word-end .ensures in
     let h : l .n + 1 ≤ length (l .numbers) = omega (arith, i .1 .counts, i .1 .sameNumbers, e .within, e .behind, i .0) in
-    let s = number-step e (l .numbers) (l .n) (ap numberSaid (sym (c .before .before .before .before .before .number .given .1)) ∙ c .before .before .before .before .before .before .before .number-of .ensures) (c .before .before .put-number .ensures) h in
+    let s = number-step e (l .numbers) (l .n) (ap numberSaid (sym (at-number .number .given .1)) ∙ at-number-of .number-of .ensures) (c .before .before .put-number .ensures) h in
     (i .0, one-gathered (i .1) (omega (arith, i .1 .counts, e .behind)) (omega arith) (omega (arith, i .1 .sameNumbers)) (omega arith) refl (c .before .before .put-number .kept .0) s)
 
--- src/lists.rt:169:17
 enum-told : tie.Need-enum-told Inv-loop μ-loop
 enum-told c = search needs
 
--- src/lists.rt:169:17
 same-length : tie.Need-same-length Inv-loop μ-loop
 same-length c = search needs
 
--- src/lists.rt:169:17
 returns : tie.Need-returns Inv-loop μ-loop
-returns c = none-listed (c .before .before .before .before .before .before .loop .inv .1) refl (number-none (c .before .before .before .before .word-end .ensures) (c .before .before .before .before .before .before .loop .numbers) (c .before .before .before .before .before .before .loop .n) (ap numberSaid (sym (c .enum-told .given .1)) ∙ c .before .before .number-of .ensures))
+returns c =
+    let at-loop = c .before .before .before .before .before .before in
+    none-listed (at-loop .loop .inv .1) refl (number-none (c .before .before .before .before .word-end .ensures) (at-loop .loop .numbers) (at-loop .loop .n) (ap numberSaid (sym (c .enum-told .given .1)) ∙ c .before .before .number-of .ensures))
 
--- src/lists.rt:154:1
 same-length-2 : tie.Need-same-length-2 Inv-loop μ-loop
 same-length-2 c = search needs
 
--- src/lists.rt:154:1
 returns-2 : tie.Need-returns-2 Inv-loop μ-loop
 unfolding numbersFrom
 returns-2 c = all-listed (c .before .loop .inv .1) (c .loop-test .left) refl

@@ -1,3 +1,4 @@
+-- `lexing::takes::word_end` meets its contract. Assumes nothing.
 use borrow.Author.Needs.{needs}
 use native.Mathlib.Omega.{arith}
 use Rattle.laws.specs.Scan.{before}
@@ -5,27 +6,21 @@ use Rattle.lexing.proofs.Nexting.{word-ends, word-fits}
 use Rattle.lexing.proofs.takes.word_end.Statement.{statement}
 use Rattle.lexing.proofs.takes.word_end.Tie as tie
 
--- src/takes.rt:46:16
 sub-rest : tie.Need-sub-rest
 sub-rest c = search needs
 
--- src/takes.rt:46:16
 part-rest-start : tie.Need-part-rest-start
 part-rest-start c = search needs
 
--- src/takes.rt:46:16
 part-rest-end : tie.Need-part-rest-end
 part-rest-end c = search needs
 
--- src/takes.rt:47:10
 find-requires : tie.Need-find-requires
 find-requires c κs = search needs
 
--- src/takes.rt:47:5
 add-result : tie.Need-add-result
 add-result c = omega (arith, word-fits (c .before .before .before .args .question .now) (c .before .before .before .args .at) _ (c .before .before .before .pre) (c .find .ensures), c .before .before .before .good)
 
--- src/takes.rt:42:1
 returns : tie.Need-returns
 returns c = word-ends _ _ _ (c .before .before .before .pre) (c .find .ensures)
 

@@ -1,3 +1,4 @@
+-- `lexing::texts::is_braces` meets its contract. Assumes nothing.
 use borrow.Author.Needs.{needs}
 use mathlib.Core.Path.{sym}
 use borrow.Author.Tests.{eq-eqb, ne-eqb}
@@ -5,23 +6,18 @@ use Rattle.lexing.proofs.Putting.{braces-other, braces-two}
 use Rattle.lexing.proofs.texts.is_braces.Statement.{statement}
 use Rattle.lexing.proofs.texts.is_braces.Tie as tie
 
--- src/texts.rt:53:9
 returns : tie.Need-returns
 returns c = sym (braces-other _ (c .if1 .taken))
 
--- src/texts.rt:55:8
 shared-slice-read-if2 : tie.Need-shared-slice-read-if2
 shared-slice-read-if2 c = search needs
 
--- src/texts.rt:56:9
 returns-2 : tie.Need-returns-2
 returns-2 c = rw (braces-two _ (c .before .before .if1 .left), ne-eqb _ 123 (c .if2 .taken))
 
--- src/texts.rt:58:5
 shared-slice-read-result : tie.Need-shared-slice-read-result
 shared-slice-read-result c = search needs
 
--- src/texts.rt:49:1
 returns-3 : tie.Need-returns-3
 returns-3 c = rw (braces-two _ (c .before .before .before .if1 .left), eq-eqb _ 123 (c .before .if2 .left))
 

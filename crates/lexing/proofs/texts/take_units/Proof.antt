@@ -1,3 +1,4 @@
+-- `lexing::texts::take_units` meets its contract. Assumes nothing.
 use borrow.Author.Needs.{needs}
 use Prim.Native.Nat.{_-_}
 use lib.ListN.{length}
@@ -12,111 +13,92 @@ Inv-loop word colons text₀ to spot₀ n₀ i₀ text spot n i = Putting colons
 abbrev μ-loop : tie.MeasureT-loop
 μ-loop word colons text₀ to spot₀ n₀ i₀ text spot n i = length word - i
 
--- src/texts.rt:24:5
 loop-holds : tie.Need-loop-holds Inv-loop μ-loop
 loop-holds c = none-put (c .before .before .pre)
 
--- src/texts.rt:25:39
 shared-slice-read-take-byte : tie.Need-shared-slice-read-take-byte Inv-loop μ-loop
 shared-slice-read-take-byte c = search needs
 
--- src/texts.rt:25:15
 take-byte-requires : tie.Need-take-byte-requires Inv-loop μ-loop
 take-byte-requires c κs = search needs
 
--- src/texts.rt:26:24
 enum-known-unit : tie.Need-enum-known-unit Inv-loop μ-loop
 enum-known-unit c = search needs
 
--- src/texts.rt:27:22
 add-text : tie.Need-add-text Inv-loop μ-loop
 add-text c = search needs
 
--- src/texts.rt:27:17
 mul-text : tie.Need-mul-text Inv-loop μ-loop
 mul-text c = search needs
 
--- src/texts.rt:27:17
 slice-write-text : tie.Need-slice-write-text Inv-loop μ-loop
 slice-write-text c = search needs
 
--- src/texts.rt:28:17
 add-n : tie.Need-add-n Inv-loop μ-loop
 add-n c = search needs
 
--- src/texts.rt:30:17
 add-i : tie.Need-add-i Inv-loop μ-loop
 add-i c = search needs
 
--- src/texts.rt:24:5
 loop-less : tie.Need-loop-less Inv-loop μ-loop
 loop-less c = search needs
 
--- src/texts.rt:24:5
 loop-again : tie.Need-loop-again Inv-loop μ-loop
-loop-again c = one-put (c .before .before .before .before .before .before .loop .inv) (c .before .before .before .before .before .loop-test .taken) (sym (c .before .unit .given .1) ∙ c .before .before .before .take-byte .ensures)
+loop-again c =
+    let at-loop-test = c .before .before .before .before .before in
+    let at-loop = at-loop-test .before in
+    one-put (at-loop .loop .inv) (at-loop-test .loop-test .taken) (sym (c .before .unit .given .1) ∙ c .before .before .before .take-byte .ensures)
 
--- src/texts.rt:32:25
 enum-known-next : tie.Need-enum-known-next Inv-loop μ-loop
 enum-known-next c = search needs
 
--- src/texts.rt:34:17
 add-i-2 : tie.Need-add-i-2 Inv-loop μ-loop
 add-i-2 c = search needs
 
--- src/texts.rt:24:5
 loop-less-2 : tie.Need-loop-less-2 Inv-loop μ-loop
 loop-less-2 c = search needs
 
--- src/texts.rt:24:5
 loop-again-2 : tie.Need-loop-again-2 Inv-loop μ-loop
-loop-again-2 c = none-yet (c .before .before .before .before .before .before .loop .inv) (c .before .before .before .before .before .loop-test .taken) (sym (c .before .next .given .1) ∙ c .before .before .before .take-byte .ensures)
+loop-again-2 c =
+    let at-loop-test = c .before .before .before .before .before in
+    let at-loop = at-loop-test .before in
+    none-yet (at-loop .loop .inv) (at-loop-test .loop-test .taken) (sym (c .before .next .given .1) ∙ c .before .before .before .take-byte .ensures)
 
--- src/texts.rt:37:17
 enum-told : tie.Need-enum-told Inv-loop μ-loop
 enum-told c = search needs
 
--- src/texts.rt:37:17
 same-length : tie.Need-same-length Inv-loop μ-loop
 same-length c = search needs
 
--- src/texts.rt:37:17
 returns : tie.Need-returns Inv-loop μ-loop
-returns c = no-form (c .before .before .before .before .before .loop .inv) (c .before .before .before .before .loop-test .taken) (sym (c .enum-told .given .1) ∙ c .before .before .take-byte .ensures)
+returns c =
+    let at-loop = c .before .before .before .before .before in
+    no-form (at-loop .loop .inv) (c .before .before .before .before .loop-test .taken) (sym (c .enum-told .given .1) ∙ c .before .before .take-byte .ensures)
 
--- src/texts.rt:42:26
 enum-told-2 : tie.Need-enum-told-2 Inv-loop μ-loop
 enum-told-2 c = search needs
 
--- src/texts.rt:43:25
 enum-told-3 : tie.Need-enum-told-3 Inv-loop μ-loop
 enum-told-3 c = search needs
 
--- src/texts.rt:44:28
 enum-told-4 : tie.Need-enum-told-4 Inv-loop μ-loop
 enum-told-4 c = search needs
 
--- src/texts.rt:17:1
 same-length-2 : tie.Need-same-length-2 Inv-loop μ-loop
 same-length-2 c = search needs
 
--- src/texts.rt:17:1
 returns-2 : tie.Need-returns-2 Inv-loop μ-loop
 returns-2 c = all-put (rw (c .enum-told2 .given .1) at (c .before .before .before .loop .inv)) (c .before .before .loop-test .left)
 
--- src/texts.rt:17:1
 same-length-3 : tie.Need-same-length-3 Inv-loop μ-loop
 same-length-3 c = search needs
 
--- src/texts.rt:17:1
 returns-3 : tie.Need-returns-3 Inv-loop μ-loop
 returns-3 c = cut-form (c .before .before .before .loop .inv) (c .before .before .loop-test .left) (rw (c .enum-told3 .given .1))
 
--- src/texts.rt:17:1
 same-length-4 : tie.Need-same-length-4 Inv-loop μ-loop
 same-length-4 c = search needs
 
--- src/texts.rt:17:1
 returns-4 : tie.Need-returns-4 Inv-loop μ-loop
 returns-4 c = cut-form (c .before .before .before .loop .inv) (c .before .before .loop-test .left) (rw (c .enum-told4 .given .1))
 

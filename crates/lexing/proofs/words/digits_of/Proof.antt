@@ -1,3 +1,4 @@
+-- `lexing::words::digits_of` meets its contract. Assumes nothing.
 use borrow.Author.Needs.{needs}
 use lib.ListN.{length}
 use Prim.Native.Nat.{_-_}
@@ -13,51 +14,47 @@ Inv-loop word most number₀ i₀ number i = Counting most word number i
 abbrev μ-loop : tie.MeasureT-loop
 μ-loop word most number₀ i₀ number i = length word - i
 
--- src/words.rt:71:5
 loop-holds : tie.Need-loop-holds Inv-loop μ-loop
 loop-holds c = none-counted _ _
 
--- src/words.rt:72:20
 shared-slice-read-byte : tie.Need-shared-slice-read-byte Inv-loop μ-loop
 shared-slice-read-byte c = search needs
 
--- src/words.rt:73:12
 digit-fits-requires : tie.Need-digit-fits-requires Inv-loop μ-loop
 digit-fits-requires c κs = search needs
 
--- src/words.rt:74:22
 mul-number : tie.Need-mul-number Inv-loop μ-loop
-mul-number c = omega (arith, fitting _ (c .before .before .before .before .before .before .args .word .now) _ _ (sym (c .before .digit-fits .ensures) ∙ c .if1 .taken))
+mul-number c =
+    let entry = c .before .before .before .before .before .before in
+    omega (arith, fitting _ (entry .args .word .now) _ _ (sym (c .before .digit-fits .ensures) ∙ c .if1 .taken))
 
--- src/words.rt:74:37
 sub-number : tie.Need-sub-number Inv-loop μ-loop
-sub-number c = omega (arith, fitting _ (c .before .before .before .before .before .before .args .word .now) _ _ (sym (c .before .digit-fits .ensures) ∙ c .if1 .taken))
+sub-number c =
+    let entry = c .before .before .before .before .before .before in
+    omega (arith, fitting _ (entry .args .word .now) _ _ (sym (c .before .digit-fits .ensures) ∙ c .if1 .taken))
 
--- src/words.rt:74:36
 cast-number : tie.Need-cast-number Inv-loop μ-loop
-cast-number c = omega (arith, fitting _ (c .before .before .before .before .before .before .args .word .now) _ _ (sym (c .before .digit-fits .ensures) ∙ c .if1 .taken))
+cast-number c =
+    let entry = c .before .before .before .before .before .before in
+    omega (arith, fitting _ (entry .args .word .now) _ _ (sym (c .before .digit-fits .ensures) ∙ c .if1 .taken))
 
--- src/words.rt:74:22
 add-number : tie.Need-add-number Inv-loop μ-loop
-add-number c = omega (arith, fitting _ (c .before .before .before .before .before .before .args .word .now) _ _ (sym (c .before .digit-fits .ensures) ∙ c .if1 .taken))
+add-number c =
+    let entry = c .before .before .before .before .before .before in
+    omega (arith, fitting _ (entry .args .word .now) _ _ (sym (c .before .digit-fits .ensures) ∙ c .if1 .taken))
 
--- src/words.rt:75:13
 add-i : tie.Need-add-i Inv-loop μ-loop
 add-i c = search needs
 
--- src/words.rt:71:5
 loop-less : tie.Need-loop-less Inv-loop μ-loop
 loop-less c = search needs
 
--- src/words.rt:71:5
 loop-again : tie.Need-loop-again Inv-loop μ-loop
 loop-again c = one-counted _ _ _ _ (c .before .before .before .before .loop .inv) (c .before .before .before .loop-test .taken) (sym (c .before .digit-fits .ensures) ∙ c .if1 .taken)
 
--- src/words.rt:77:13
 returns : tie.Need-returns Inv-loop μ-loop
 returns c = not-counted _ _ _ _ (c .before .before .before .before .loop .inv) (c .before .before .before .loop-test .taken) (sym (c .before .digit-fits .ensures) ∙ c .if1 .left)
 
--- src/words.rt:66:1
 returns-2 : tie.Need-returns-2 Inv-loop μ-loop
 returns-2 c = all-counted _ _ _ _ (c .before .loop .inv) (c .loop-test .left)
 

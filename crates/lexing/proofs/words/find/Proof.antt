@@ -1,3 +1,4 @@
+-- `lexing::words::find` meets its contract. Assumes nothing.
 use borrow.Author.Needs.{needs}
 use lib.Dec.{eqb}
 use lib.ListN.{length}
@@ -14,31 +15,24 @@ Inv-loop bytes byte i₀ i = Passed (λ x. flip (eqb x byte)) bytes i
 abbrev μ-loop : tie.MeasureT-loop
 μ-loop bytes byte i₀ i = length bytes - i
 
--- src/words.rt:19:5
 loop-holds : tie.Need-loop-holds Inv-loop μ-loop
 loop-holds c = none-passed _ _
 
--- src/words.rt:20:12
 shared-slice-read-if1 : tie.Need-shared-slice-read-if1 Inv-loop μ-loop
 shared-slice-read-if1 c = search needs
 
--- src/words.rt:21:13
 returns : tie.Need-returns Inv-loop μ-loop
 returns c = stopped _ _ _ (c .before .before .before .loop .inv) (c .before .before .loop-test .taken) (rw (eq-eqb _ _ (c .if1 .taken)))
 
--- src/words.rt:23:9
 add-i : tie.Need-add-i Inv-loop μ-loop
 add-i c = search needs
 
--- src/words.rt:19:5
 loop-less : tie.Need-loop-less Inv-loop μ-loop
 loop-less c = search needs
 
--- src/words.rt:19:5
 loop-again : tie.Need-loop-again Inv-loop μ-loop
 loop-again c = one-more _ _ _ (c .before .before .before .loop .inv) (c .before .before .loop-test .taken) (rw (ne-eqb _ _ (c .if1 .left)))
 
--- src/words.rt:15:1
 returns-2 : tie.Need-returns-2 Inv-loop μ-loop
 returns-2 c = all-passed _ _ _ (c .before .loop .inv) (c .loop-test .left)
 

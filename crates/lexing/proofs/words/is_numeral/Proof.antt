@@ -1,3 +1,4 @@
+-- `lexing::words::is_numeral` meets its contract. Assumes nothing.
 use borrow.Author.Needs.{needs}
 use mathlib.Core.Path.{sym}
 use borrow.Author.Tests.{eq-eqb, ne-eqb}
@@ -5,23 +6,18 @@ use Rattle.lexing.proofs.Scanning.{longer-numeral, no-numeral, short-nu
 use Rattle.lexing.proofs.words.is_numeral.Statement.{statement}
 use Rattle.lexing.proofs.words.is_numeral.Tie as tie
 
--- src/words.rt:88:9
 returns : tie.Need-returns
 returns c = sym (no-numeral _ (c .if1 .taken))
 
--- src/words.rt:91:9
 returns-2 : tie.Need-returns-2
 returns-2 c = sym (short-numeral _ (c .if2 .taken))
 
--- src/words.rt:93:8
 shared-slice-read-if3 : tie.Need-shared-slice-read-if3
 shared-slice-read-if3 c = search needs
 
--- src/words.rt:94:9
 returns-3 : tie.Need-returns-3
 returns-3 c = rw (longer-numeral _ (c .before .before .before .if1 .left) (c .before .before .if2 .left), eq-eqb _ 48 (c .if3 .taken))
 
--- src/words.rt:84:1
 returns-4 : tie.Need-returns-4
 returns-4 c = rw (longer-numeral _ (c .before .before .before .if1 .left) (c .before .before .if2 .left), ne-eqb _ 48 (c .if3 .left))
 

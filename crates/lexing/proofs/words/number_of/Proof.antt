@@ -1,23 +1,20 @@
+-- `lexing::words::number_of` meets its contract. Assumes nothing.
 use borrow.Author.Needs.{needs}
 use mathlib.Core.Path.{_∙_, sym}
 use Rattle.lexing.specs.Number.{numberOf}
 use Rattle.lexing.proofs.words.number_of.Statement.{statement}
 use Rattle.lexing.proofs.words.number_of.Tie as tie
 
--- src/words.rt:99:8
 is-numeral-requires : tie.Need-is-numeral-requires
 is-numeral-requires c κs = search needs
 
--- src/words.rt:100:9
 digits-of-requires : tie.Need-digits-of-requires
 digits-of-requires c κs = search needs
 
--- src/words.rt:100:9
 returns : tie.Need-returns
 unfolding numberOf
 returns c = rw (sym (c .before .before .is-numeral .ensures) ∙ c .before .if1 .taken) (c .digits-of .ensures)
 
--- src/words.rt:96:1
 returns-2 : tie.Need-returns-2
 unfolding numberOf
 returns-2 c = rw (sym (c .before .is-numeral .ensures) ∙ c .if1 .left)

@@ -1,3 +1,4 @@
+-- `lexing::words::same` meets its contract. Assumes nothing.
 use borrow.Author.Needs.{needs}
 use lib.ListN.{length}
 use Prim.Native.Nat.{_-_}
@@ -12,39 +13,30 @@ Inv-loop word name i₀ i = Alike word name i
 abbrev μ-loop : tie.MeasureT-loop
 μ-loop word name i₀ i = length word - i
 
--- src/words.rt:33:9
 returns : tie.Need-returns Inv-loop μ-loop
 returns c = sym (unequal _ _ (c .if1 .taken))
 
--- src/words.rt:36:5
 loop-holds : tie.Need-loop-holds Inv-loop μ-loop
 loop-holds c = none-alike _ _ (c .if1 .left)
 
--- src/words.rt:37:12
 shared-slice-read-if2 : tie.Need-shared-slice-read-if2 Inv-loop μ-loop
 shared-slice-read-if2 c = search needs
 
--- src/words.rt:37:23
 shared-slice-read-if2-2 : tie.Need-shared-slice-read-if2-2 Inv-loop μ-loop
 shared-slice-read-if2-2 c = search needs
 
--- src/words.rt:38:13
 returns-2 : tie.Need-returns-2 Inv-loop μ-loop
 returns-2 c = sym (not-alike _ _ _ (c .before .before .before .before .loop .inv) (c .before .before .before .loop-test .taken) (c .if2 .taken))
 
--- src/words.rt:40:9
 add-i : tie.Need-add-i Inv-loop μ-loop
 add-i c = search needs
 
--- src/words.rt:36:5
 loop-less : tie.Need-loop-less Inv-loop μ-loop
 loop-less c = search needs
 
--- src/words.rt:36:5
 loop-again : tie.Need-loop-again Inv-loop μ-loop
 loop-again c = one-alike _ _ _ (c .before .before .before .before .loop .inv) (c .before .before .before .loop-test .taken) (c .if2 .left)
 
--- src/words.rt:29:1
 returns-3 : tie.Need-returns-3 Inv-loop μ-loop
 returns-3 c = sym (all-alike _ _ _ (c .before .loop .inv) (c .loop-test .left))
 

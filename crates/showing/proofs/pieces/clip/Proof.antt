@@ -1,25 +1,21 @@
+-- `showing::pieces::clip` meets its contract. Assumes nothing.
 use borrow.Author.Needs.{needs}
 use Rattle.showing.proofs.Stepping.{clip-cut, clip-in, clip-past}
 use Rattle.showing.proofs.pieces.clip.Statement.{statement}
 use Rattle.showing.proofs.pieces.clip.Tie as tie
 
--- src/pieces.rt:49:9
 returns : tie.Need-returns
 returns c = clip-past _ _ _ (c .if1 .taken)
 
--- src/pieces.rt:54:15
 sub-if2 : tie.Need-sub-if2
 sub-if2 c = search needs
 
--- src/pieces.rt:57:17
 add-t6 : tie.Need-add-t6
 add-t6 c = search needs
 
--- src/pieces.rt:55:9
 returns-2 : tie.Need-returns-2
 returns-2 c = clip-in _ _ _ (c .before .if1 .left) (c .if2 .taken)
 
--- src/pieces.rt:45:1
 returns-3 : tie.Need-returns-3
 returns-3 c = clip-cut _ _ _ (c .before .if1 .left) (c .if2 .left)
 

@@ -1,22 +1,19 @@
+-- `showing::pieces::fit` meets its contract. Assumes nothing.
 use borrow.Author.Needs.{needs}
 use Rattle.showing.proofs.pieces.fit.Statement.{statement}
 use Rattle.showing.proofs.pieces.fit.Tie as tie
 
--- src/pieces.rt:81:5
-least-requires : tie.Need-least-requires
-least-requires c κs = search needs
+smaller-requires : tie.Need-smaller-requires
+smaller-requires c κs = search needs
 
--- src/pieces.rt:82:5
-least-requires-2 : tie.Need-least-requires-2
-least-requires-2 c κs = search needs
+smaller-requires-2 : tie.Need-smaller-requires-2
+smaller-requires-2 c κs = search needs
 
--- src/pieces.rt:83:5
-least-requires-3 : tie.Need-least-requires-3
-least-requires-3 c κs = search needs
+smaller-requires-3 : tie.Need-smaller-requires-3
+smaller-requires-3 c κs = search needs
 
--- src/pieces.rt:77:1
 returns : tie.Need-returns
-returns c = rw (c .before .before .least .ensures, c .before .least2 .ensures, c .least3 .ensures)
+returns c = rw (c .before .before .smaller .ensures, c .before .smaller2 .ensures, c .smaller3 .ensures)
 
 pub fit-spec : {M : Type 1} → statement M
-fit-spec = tie.close (tie.spec least-requires least-requires-2 least-requires-3 returns)
+fit-spec = tie.close (tie.spec smaller-requires smaller-requires-2 smaller-requires-3 returns)

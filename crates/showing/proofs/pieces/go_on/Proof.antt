@@ -1,3 +1,4 @@
+-- `showing::pieces::go_on` meets its contract. Assumes nothing.
 use borrow.Author.Needs.{needs}
 use Prim.Native.Nat.{_-_}
 use lib.ListN.{length}
@@ -12,35 +13,33 @@ Inv-loop out spans numbers piece₀ r₀ piece r = Going out spans numbers r₀ 
 abbrev μ-loop : tie.MeasureT-loop
 μ-loop out spans numbers piece₀ r₀ piece r = length piece - r .at
 
--- src/pieces.rt:238:9
 fit-requires : tie.Need-fit-requires Inv-loop μ-loop
 fit-requires c κs = search needs
 
--- src/pieces.rt:239:5
 loop-holds : tie.Need-loop-holds Inv-loop μ-loop
 loop-holds c = none-gone _ _ _ _ _ (c .fit .ensures)
 
--- src/pieces.rt:239:11
 is-room-requires : tie.Need-is-room-requires Inv-loop μ-loop
 is-room-requires c κs = search needs
 
--- src/pieces.rt:240:9
 turn-requires : tie.Need-turn-requires Inv-loop μ-loop
 turn-requires c κs = room-ready _ _ _ (c .before .before .before .loop .inv) (sym (c .before .before .is-room .ensures) ∙ c .before .if1 .taken)
 
--- src/pieces.rt:239:5
 loop-less : tie.Need-loop-less Inv-loop μ-loop
-loop-less c = room-falls _ _ _ (room-ready _ _ _ (c .before .before .before .before .before .before .loop .inv) (sym (c .before .before .before .before .before .is-room .ensures) ∙ c .before .before .before .before .if1 .taken)) (c .before .before .turn .ensures)
+loop-less c =
+    let at-is-room = c .before .before .before .before .before in
+    let at-loop = at-is-room .before in
+    room-falls _ _ _ (room-ready _ _ _ (at-loop .loop .inv) (sym (at-is-room .is-room .ensures) ∙ c .before .before .before .before .if1 .taken)) (c .before .before .turn .ensures)
 
--- src/pieces.rt:239:5
 loop-again : tie.Need-loop-again Inv-loop μ-loop
-loop-again c = one-gone _ _ _ (c .before .before .before .before .before .before .loop .inv) (room-ready _ _ _ (c .before .before .before .before .before .before .loop .inv) (sym (c .before .before .before .before .before .is-room .ensures) ∙ c .before .before .before .before .if1 .taken)) (c .before .before .turn .ensures)
+loop-again c =
+    let at-is-room = c .before .before .before .before .before in
+    let at-loop = at-is-room .before in
+    one-gone _ _ _ (at-loop .loop .inv) (room-ready _ _ _ (at-loop .loop .inv) (sym (at-is-room .is-room .ensures) ∙ c .before .before .before .before .if1 .taken)) (c .before .before .turn .ensures)
 
--- src/pieces.rt:229:1
 same-length : tie.Need-same-length Inv-loop μ-loop
 same-length c = search needs
 
--- src/pieces.rt:229:1
 returns : tie.Need-returns Inv-loop μ-loop
 returns c = all-gone _ _ _ (c .before .before .before .fit .ensures) (c .before .before .loop .inv) (sym (c .before .is-room .ensures) ∙ c .if1 .left)
 

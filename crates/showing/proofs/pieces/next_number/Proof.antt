@@ -1,33 +1,27 @@
+-- `showing::pieces::next_number` meets its contract. Assumes nothing.
 use borrow.Author.Needs.{needs}
 use mathlib.Core.Path.{refl}
 use Rattle.showing.proofs.pieces.next_number.Statement.{statement}
 use Rattle.showing.proofs.pieces.next_number.Tie as tie
 
--- src/pieces.rt:174:53
 mul-wide : tie.Need-mul-wide
 mul-wide c = search needs
 
--- src/pieces.rt:174:53
 shared-slice-read-wide : tie.Need-shared-slice-read-wide
 shared-slice-read-wide c = search needs
 
--- src/pieces.rt:174:48
 wide-requires : tie.Need-wide-requires
 wide-requires c κs = search needs
 
--- src/pieces.rt:174:5
 put-signed-requires : tie.Need-put-signed-requires
 put-signed-requires c κs = search needs
 
--- src/pieces.rt:175:16
 add-r : tie.Need-add-r
 add-r c = search needs
 
--- src/pieces.rt:168:1
 same-length : tie.Need-same-length
 same-length c = search needs
 
--- src/pieces.rt:168:1
 returns : tie.Need-returns
 returns c = record { puts = rw (c .before .before .before .wide .ensures) at (c .before .before .put-signed .ensures); moves = refl }
 

@@ -1,35 +1,31 @@
+-- `showing::pieces::open_text` meets its contract. Assumes nothing.
 use borrow.Author.Needs.{needs}
 use Rattle.rules.specs.Unit.{units}
 use Rattle.showing.specs.Piece.{opening}
 use Rattle.showing.proofs.pieces.open_text.Statement.{statement}
 use Rattle.showing.proofs.pieces.open_text.Tie as tie
 
--- src/pieces.rt:93:37
 slice-aggregate-put-bytes : tie.Need-slice-aggregate-put-bytes
 slice-aggregate-put-bytes c = search needs
 
--- src/pieces.rt:93:9
 put-bytes-requires : tie.Need-put-bytes-requires
 put-bytes-requires c κs = search needs
 
--- src/pieces.rt:93:9
 same-length : tie.Need-same-length
 same-length c = search needs
 
--- src/pieces.rt:93:9
 returns : tie.Need-returns
 unfolding opening units
-returns c = rw (c .before .before .before .before .before .if1 .taken) (c .before .before .put-bytes .ensures)
+returns c =
+    let at-if1 = c .before .before .before .before .before in
+    rw (at-if1 .if1 .taken) (c .before .before .put-bytes .ensures)
 
--- src/pieces.rt:95:5
 put-byte-requires : tie.Need-put-byte-requires
 put-byte-requires c κs = search needs
 
--- src/pieces.rt:88:1
 same-length-2 : tie.Need-same-length-2
 same-length-2 c = search needs
 
--- src/pieces.rt:88:1
 returns-2 : tie.Need-returns-2
 unfolding opening units
 returns-2 c = rw (c .before .before .before .before .if1 .left) (c .before .before .put-byte .ensures)

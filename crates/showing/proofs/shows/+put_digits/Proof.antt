@@ -1,3 +1,4 @@
+-- `showing::shows::+put_digits` meets its contract. Assumes nothing.
 use borrow.Author.Needs.{needs}
 use Prim.Native.Nat.{_/_, _<_, _^_, suc, ℕ}
 use borrow.Fn.Kinds.{In}
@@ -26,7 +27,6 @@ abbrev put-digits-below : ℕ → In 1 put-digits-kinds.ps
 put-digits-below t =
     and 1 put-digits-kinds.ps (falls 1 put-digits-kinds.ps _<_ μ-put-digits t) put-digits.Pre
 
--- src/shows.rt:66:36
 put-digits-glyph-requires : (t : ℕ) → put-digits-lts.Need-glyph-requires (
   glyph-reads.Asked,
   glyph-reads.Learnt,
@@ -37,7 +37,6 @@ put-digits-glyph-requires : (t : ℕ) → put-digits-lts.Need-glyph-requires (
 ) (put-digits-at t) put-digits.Post
 put-digits-glyph-requires t c κs = search needs
 
--- src/shows.rt:66:9
 put-digits-put-byte-requires : (t : ℕ) → put-digits-lts.Need-put-byte-requires (
   glyph-reads.Asked,
   glyph-reads.Learnt,
@@ -48,7 +47,6 @@ put-digits-put-byte-requires : (t : ℕ) → put-digits-lts.Need-put-byte-requir
 ) (put-digits-at t) put-digits.Post
 put-digits-put-byte-requires t c κs = search needs
 
--- src/shows.rt:66:9
 put-digits-same-length : (t : ℕ) → put-digits-lts.Need-same-length (
   glyph-reads.Asked,
   glyph-reads.Learnt,
@@ -59,7 +57,6 @@ put-digits-same-length : (t : ℕ) → put-digits-lts.Need-same-length (
 ) (put-digits-at t) put-digits.Post
 put-digits-same-length t c = search needs
 
--- src/shows.rt:66:9
 put-digits-returns : (t : ℕ) → put-digits-lts.Need-returns (
   glyph-reads.Asked,
   glyph-reads.Learnt,
@@ -68,9 +65,10 @@ put-digits-returns : (t : ℕ) → put-digits-lts.Need-returns (
   put-digits-below t,
   put-digits.Post,
 ) (put-digits-at t) put-digits.Post
-put-digits-returns t c = λ fuel l. rw (one-digit _ fuel _ (c .before .before .before .before .before .if1 .taken), ← c .before .before .before .glyph .ensures) (c .before .before .put-byte .ensures)
+put-digits-returns t c =
+    let at-if1 = c .before .before .before .before .before in
+    λ fuel l. rw (one-digit _ fuel _ (at-if1 .if1 .taken), ← c .before .before .before .glyph .ensures) (c .before .before .put-byte .ensures)
 
--- src/shows.rt:68:44
 put-digits-div-put-digits : (t : ℕ) → put-digits-lts.Need-div-put-digits (
   glyph-reads.Asked,
   glyph-reads.Learnt,
@@ -81,7 +79,6 @@ put-digits-div-put-digits : (t : ℕ) → put-digits-lts.Need-div-put-digits (
 ) (put-digits-at t) put-digits.Post
 put-digits-div-put-digits t c = search needs
 
--- src/shows.rt:68:9
 put-digits-put-digits-requires : (t : ℕ) → put-digits-lts.Need-put-digits-requires (
   glyph-reads.Asked,
   glyph-reads.Learnt,
@@ -96,7 +93,6 @@ put-digits-put-digits-requires t c κs =
     let s : a .number / a .base < a .number = div-lt-self (omega arith) (omega arith) in
     (subst (λ (m : ℕ). a .number / a .base < m) (c .before .before .before .pre .0) s, (p .0, p .1, p .2))
 
--- src/shows.rt:69:33
 put-digits-rem-glyph : (t : ℕ) → put-digits-lts.Need-rem-glyph (
   glyph-reads.Asked,
   glyph-reads.Learnt,
@@ -107,7 +103,6 @@ put-digits-rem-glyph : (t : ℕ) → put-digits-lts.Need-rem-glyph (
 ) (put-digits-at t) put-digits.Post
 put-digits-rem-glyph t c = search needs
 
--- src/shows.rt:69:27
 put-digits-glyph-requires-2 : (t : ℕ) → put-digits-lts.Need-glyph-requires-2 (
   glyph-reads.Asked,
   glyph-reads.Learnt,
@@ -117,12 +112,12 @@ put-digits-glyph-requires-2 : (t : ℕ) → put-digits-lts.Need-glyph-requires-2
   put-digits.Post,
 ) (put-digits-at t) put-digits.Post
 put-digits-glyph-requires-2 t c κs =
-    let a = c .before .before .before .before .before .before .before .args in
-    let p = c .before .before .before .before .before .before .before .pre .1 in
+    let entry = c .before .before .before .before .before .before .before in
+    let a = entry .args in
+    let p = entry .pre .1 in
     let z : 0 < a .base = omega arith in
     omega (arith, mod-lt (a .number) z, p .1)
 
--- src/shows.rt:69:5
 put-digits-put-byte-requires-2 : (t : ℕ) → put-digits-lts.Need-put-byte-requires-2 (
   glyph-reads.Asked,
   glyph-reads.Learnt,
@@ -132,12 +127,12 @@ put-digits-put-byte-requires-2 : (t : ℕ) → put-digits-lts.Need-put-byte-requ
   put-digits.Post,
 ) (put-digits-at t) put-digits.Post
 put-digits-put-byte-requires-2 t c κs =
-    let a = c .before .before .before .before .before .before .before .before .args in
-    let p = c .before .before .before .before .before .before .before .before .pre .1 in
-    let l : a .number / a .base < a .base ^ suc 62 = fewer (a .base) 62 (a .number) (p .0) (wide (a .base) (a .number) (p .0) (c .before .before .before .before .before .before .before .before .fits .number .fits)) in
+    let entry = c .before .before .before .before .before .before .before .before in
+    let a = entry .args in
+    let p = entry .pre .1 in
+    let l : a .number / a .base < a .base ^ suc 62 = fewer (a .base) 62 (a .number) (p .0) (wide (a .base) (a .number) (p .0) (entry .fits .number .fits)) in
     omega (arith, c .before .before .before .before .put-digits .ensures 62 l .counts, digits-short (a .base) 62 (a .number / a .base), p .2)
 
--- src/shows.rt:61:1
 put-digits-same-length-2 : (t : ℕ) → put-digits-lts.Need-same-length-2 (
   glyph-reads.Asked,
   glyph-reads.Learnt,
@@ -148,7 +143,6 @@ put-digits-same-length-2 : (t : ℕ) → put-digits-lts.Need-same-length-2 (
 ) (put-digits-at t) put-digits.Post
 put-digits-same-length-2 t c = search needs
 
--- src/shows.rt:61:1
 put-digits-returns-2 : (t : ℕ) → put-digits-lts.Need-returns-2 (
   glyph-reads.Asked,
   glyph-reads.Learnt,
@@ -157,7 +151,11 @@ put-digits-returns-2 : (t : ℕ) → put-digits-lts.Need-returns-2 (
   put-digits-below t,
   put-digits.Post,
 ) (put-digits-at t) put-digits.Post
-put-digits-returns-2 t c = last-put _ _ (c .before .before .before .before .before .before .before .before .before .before .before .pre .1 .0) (c .before .before .before .before .before .before .before .before .before .if1 .left) (c .before .before .before .before .before .before .before .put-digits .ensures) (rw (c .before .before .before .glyph2 .ensures) at (c .before .before .put-byte2 .ensures))
+put-digits-returns-2 t c =
+    let at-put-digits = c .before .before .before .before .before .before .before in
+    let at-if1 = at-put-digits .before .before in
+    let entry = at-if1 .before .before in
+    last-put _ _ (entry .pre .1 .0) (at-if1 .if1 .left) (at-put-digits .put-digits .ensures) (rw (c .before .before .before .glyph2 .ensures) at (c .before .before .put-byte2 .ensures))
 
 pub +put-digits-spec : {M : Type 1} → statement M
 +put-digits-spec = close μ-put-digits λ t. put-digits-lts.spec (

@@ -1,30 +1,25 @@
+-- `showing::shows::put_byte` meets its contract. Assumes nothing.
 use borrow.Author.Needs.{needs}
 use mathlib.Core.Path.{refl, sym}
 use lib.Seq.{set-out}
 use Rattle.showing.proofs.shows.put_byte.Statement.{statement}
 use Rattle.showing.proofs.shows.put_byte.Tie as tie
 
--- src/shows.rt:28:9
 slice-write-piece : tie.Need-slice-write-piece
 slice-write-piece c = search needs
 
--- src/shows.rt:29:16
 add-result : tie.Need-add-result
 add-result c = search needs
 
--- src/shows.rt:29:9
 same-length : tie.Need-same-length
 same-length c = search needs
 
--- src/shows.rt:29:9
 returns : tie.Need-returns
 returns c = search needs
 
--- src/shows.rt:31:5
 add-result-2 : tie.Need-add-result-2
 add-result-2 c = search needs
 
--- src/shows.rt:23:1
 returns-2 : tie.Need-returns-2
 returns-2 c = record { counts = refl; stores = sym (set-out _ _ _ (c .if1 .left)) }
 

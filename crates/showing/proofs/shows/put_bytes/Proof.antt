@@ -1,3 +1,4 @@
+-- `showing::shows::put_bytes` meets its contract. Assumes nothing.
 use borrow.Author.Needs.{needs}
 use Prim.Native.Nat.{_+_, _-_, _<_, _^_}
 use native.Mathlib.Omega.{arith}
@@ -13,35 +14,30 @@ Inv-loop piece₀ at bytes next₀ i₀ piece next i = (length piece ≡ length 
 abbrev μ-loop : tie.MeasureT-loop
 μ-loop piece₀ at bytes next₀ i₀ piece next i = length bytes - i
 
--- src/shows.rt:41:5
 loop-holds : tie.Need-loop-holds Inv-loop μ-loop
 loop-holds c = (refl, c .before .before .pre, none-copied)
 
--- src/shows.rt:42:38
 shared-slice-read-put-byte : tie.Need-shared-slice-read-put-byte Inv-loop μ-loop
 shared-slice-read-put-byte c = search needs
 
--- src/shows.rt:42:9
 put-byte-requires : tie.Need-put-byte-requires Inv-loop μ-loop
 put-byte-requires c κs = omega (arith, c .before .before .before .loop .inv .2 .place, c .before .before .before .loop .inv .1)
 
--- src/shows.rt:43:9
 add-i : tie.Need-add-i Inv-loop μ-loop
 add-i c = search needs
 
--- src/shows.rt:41:5
 loop-less : tie.Need-loop-less Inv-loop μ-loop
 loop-less c = search needs
 
--- src/shows.rt:41:5
 loop-again : tie.Need-loop-again Inv-loop μ-loop
-loop-again c = (c .before .before .put-byte .kept .0 ∙ c .before .before .before .before .before .before .loop .inv .0, c .before .before .before .before .before .before .loop .inv .1, one-copied (c .before .before .before .before .before .before .loop .inv .2) (c .before .before .before .before .before .loop-test .taken) (c .before .before .put-byte .ensures))
+loop-again c =
+    let at-loop-test = c .before .before .before .before .before in
+    let at-loop = at-loop-test .before in
+    (c .before .before .put-byte .kept .0 ∙ at-loop .loop .inv .0, at-loop .loop .inv .1, one-copied (at-loop .loop .inv .2) (at-loop-test .loop-test .taken) (c .before .before .put-byte .ensures))
 
--- src/shows.rt:35:1
 same-length : tie.Need-same-length Inv-loop μ-loop
 same-length c = search needs
 
--- src/shows.rt:35:1
 returns : tie.Need-returns Inv-loop μ-loop
 returns c = all-copied (c .before .loop .inv .2) (c .loop-test .left)
 
