@@ -11,7 +11,7 @@ use lib.ListN.{length, take, drop, set}
 use lib.Seq.{sets}
 use Rattle.rules.specs.Building.{lineLimit}
 use Rattle.laws.specs.Store.{part-is, back-is, sets-rest, sets-out}
-use Rattle.quoting.specs.Appended.{Appended}
+use Rattle.laws.specs.Placed.{Appended}
 use Rattle.building.specs.Passes.{counted, stored, Added}
 
 -- past the limit nothing is added

@@ -12,7 +12,7 @@ use Rattle.rules.specs.Unit.{units, quote}
 use Rattle.rules.specs.Quoting.{enclosed}
 use Rattle.rules.specs.Building.{batchFront}
 use Rattle.laws.specs.Store.{sets-append}
-use Rattle.quoting.specs.Appended.{Appended}
+use Rattle.laws.specs.Placed.{Appended}
 use Rattle.building.specs.Stages.{frontOf, headOf}
 
 -- the front has 28 units, or none

@@ -2,7 +2,7 @@
 ghost use mathlib.Core.Path.{_≡_};
 ghost use Rattle.rules.specs.Choice.{both};
 ghost use Rattle.rules.specs.Building.{isNoScript, scriptOf};
-ghost use Rattle.quoting.specs.Appended.{Appended};
+ghost use Rattle.laws.specs.Placed.{Appended};
 ghost use Rattle.building.specs.Stages.{nameOf, frontOf, headOf};
 use units::scans;
 use units::stores;

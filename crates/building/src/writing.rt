@@ -5,7 +5,7 @@ ghost use lib.ListN.{length};
 ghost use Rattle.rules.specs.Record.{argumentOf};
 ghost use Rattle.rules.specs.Building.{written};
 ghost use Rattle.units.specs.Table.{classTable};
-ghost use Rattle.quoting.specs.Appended.{Appended};
+ghost use Rattle.laws.specs.Placed.{Appended};
 ghost use Rattle.building.specs.Passes.{counted, Added, ruleOf, piece};
 use rules::Arg;
 use units::parts;

@@ -3,7 +3,7 @@ use super::pages::compare;
 use super::pages::put;
 use super::pages::put_units;
 use super::pages::verdict;
-use super::pages::widen;
+use octets::widen;
 use rules::Built;
 use rules::Parsed;
 use units::refusals::number_of;

@@ -2,30 +2,11 @@
 ghost use Prim.Native.Nat.{_≤_};
 ghost use lib.ListN.{length};
 use libc::STDOUT_FILENO;
+use octets::same;
 
 // Writes bytes to standard output.
 pub fn say(bytes: &[u8]) {
     io::write_all(STDOUT_FILENO, bytes);
-}
-
-// The units of ASCII bytes, at the front of what is lent. Answers how many there are.
-pub fn widen(bytes: &[u8], units: &mut [u16]) -> usize
-    ensures { λ r. ⌜ r ≤ length (now (units .exit)) ⌝ }
-{
-    let mut i = 0;
-    while i < bytes.len() {
-        if units.len() <= i {
-            return i;
-        }
-        units[i] = wide(bytes[i]);
-        i += 1;
-    }
-    i
-}
-
-// A byte as a unit.
-fn wide(byte: u8) -> u16 {
-    byte as u16
 }
 
 // A unit as a byte; a unit above 255 is a question mark.
@@ -57,23 +38,6 @@ pub fn put_units(page: &mut [u8], at: usize, units: &[u16]) -> usize
         i += 1;
     }
     to
-}
-
-// Whether two runs of bytes are equal.
-fn same(a: &[u8], b: &[u8]) -> bool {
-    if a.len() != b.len() {
-        return false;
-    }
-    let mut i = 0;
-    while i < a.len() {
-        if i < b.len() {
-            if a[i] != b[i] {
-                return false;
-            }
-        }
-        i += 1;
-    }
-    true
 }
 
 // A verdict on an example, behind its name.

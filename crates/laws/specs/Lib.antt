@@ -1,4 +1,7 @@
 pub mod Store
+pub mod Placed
+pub mod Equal
+pub mod Digits
 pub mod Scan
 pub mod Class
 pub mod Choice

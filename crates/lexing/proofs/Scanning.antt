@@ -1,4 +1,4 @@
--- Names and numbers, met one byte after another. Assumes nothing.
+-- Numbers, met one byte after another. Assumes nothing.
 use Prim.Native.Nat.{ℕ, _+_, _-_, _*_, _≤_, _<_, zero-le}
 use native.Mathlib.Numerals.{add-one}
 use native.Mathlib.Omega.{arith}
@@ -8,58 +8,10 @@ use mathlib.Core.List.{List, [], _∷_}
 use lib.Dec.{eqb, leb}
 use lib.ListN.{length, getD, drop, drop-of-length-le}
 use lib.Seq.{drop-cons}
-use borrow.Author.Tests.{eq-eqb, ne-eqb, leb-true}
+use borrow.Author.Tests.{leb-true}
 use Rattle.rules.specs.Choice.{both, flip}
 use Rattle.lexing.specs.Text.{taken, ill}
-use Rattle.lexing.specs.Word.{equal}
 use Rattle.lexing.specs.Number.{digitFits, numberFrom, isNumeral}
-
--- ---- names
-
--- words of unequal length are not the same
-pub unequal : (xs ys : List ℕ) → (length xs ≡ length ys → ⊥) → equal xs ys ≡ false
-unfolding equal
-unequal [] [] h = absurd (h refl)
-unequal [] (y ∷ ys) h = refl
-unequal (x ∷ xs) [] h = refl
-unequal (x ∷ xs) (y ∷ ys) h = rw (unequal xs ys (λ e. h (rw e))) (both-false (eqb x y))
-  where
-    both-false : (b : Bool) → both b false ≡ false
-    both-false true = refl
-    both-false false = refl
-
--- i bytes are the same, and what is left decides
-pub record Alike (xs ys : List ℕ) (i : ℕ) : Type 0 where
-  pub within : i ≤ length xs
-  pub sizes : length xs ≡ length ys
-  pub still : equal xs ys ≡ equal (drop i xs) (drop i ys)
-
-module _ (xs ys : List ℕ) where
-  -- at the start none are compared
-  pub none-alike : length xs ≡ length ys → Alike xs ys 0
-  none-alike e = record { within = zero-le; sizes = e; still = refl }
-
-  step-alike : (i : ℕ) → i < length xs → length xs ≡ length ys → equal (drop i xs) (drop i ys) ≡ both (eqb (getD xs i 0) (getD ys i 0)) (equal (drop (i + 1) xs) (drop (i + 1) ys))
-  unfolding equal
-  step-alike i h e = let g : i < length ys = omega arith in rw (add-one i, drop-cons xs i 0 h, drop-cons ys i 0 g)
-
-  -- one more
-  pub one-alike : (i : ℕ) → Alike xs ys i → i < length xs → getD xs i 0 ≡ getD ys i 0 → Alike xs ys (i + 1)
-  one-alike i a h e =
-      record { within = omega arith; sizes = a .sizes; still = a .still ∙ step-alike i h (a .sizes) ∙ rw (eq-eqb (getD xs i 0) (getD ys i 0) e) }
-
-  -- one that differs
-  pub not-alike : (i : ℕ) → Alike xs ys i → i < length xs → (getD xs i 0 ≡ getD ys i 0 → ⊥) → equal xs ys ≡ false
-  not-alike i a h e = a .still ∙ step-alike i h (a .sizes) ∙ rw (ne-eqb (getD xs i 0) (getD ys i 0) e)
-
-  -- the end
-  pub all-alike : (i : ℕ) → Alike xs ys i → length xs ≤ i → equal xs ys ≡ true
-  unfolding equal
-  all-alike i a h =
-      let g : length ys ≤ i = omega (arith, a .sizes) in
-      a .still ∙ rw (drop-of-length-le xs {i = i} h, drop-of-length-le ys {i = i} g)
-
--- ---- numbers
 
 -- i digits are read, and what is left decides
 pub record Counting (most : ℕ) (word : List ℕ) (number i : ℕ) : Type 0 where

@@ -7,7 +7,7 @@ use mathlib.Core.List.{List, [], _∷_, _++_}
 use lib.Dec.{eqb, leb, ltb}
 use Rattle.rules.specs.Choice.{pick, either, both, flip}
 use Rattle.rules.specs.Unit.{units, within, isDigit}
-use Rattle.rules.specs.Status.{digits}
+use Rattle.octets.specs.Braced.{braced}
 use Rattle.lexing.specs.declared.forms.Spot.{Spot}
 use Rattle.lexing.specs.declared.forms.Spot.the-variants as Spot
 use Rattle.lexing.specs.declared.forms.Step.{Step}
@@ -19,10 +19,10 @@ use Rattle.lexing.specs.declared.forms.Step.the-variants as Step
 unfoldable pub isPlain : Bool → ℕ → Bool
 isPlain colons x = both (within 33 126 x) (both (flip (either (eqb x 123) (eqb x 125))) (either (flip (eqb x 58)) colons))
 
--- the bytes of one unit: a number below 65,536 has at most 4 hexadecimal digits
+-- the bytes of one unit
 unfoldable pub shownUnit : Bool → ℕ → List ℕ
-unfolding isPlain digits
-shownUnit colons x = let braced = 123 ∷ digits 16 3 x ++ 125 ∷ [] in pick (isPlain colons x) (x ∷ []) braced
+unfolding isPlain braced
+shownUnit colons x = pick (isPlain colons x) (x ∷ []) (braced x)
 
 -- the bytes of units one after another
 unfoldable pub shownEach : Bool → List ℕ → List ℕ

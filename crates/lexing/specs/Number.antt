@@ -6,8 +6,8 @@ use lib.Dec.{eqb, leb}
 use Rattle.rules.specs.Choice.{pick, both, flip}
 use Rattle.rules.specs.Unit.{isDigit}
 use Rattle.lexing.specs.Text.{Taken, taken, ill}
-use Rattle.lexing.specs.declared.words.Number.{Number}
-use Rattle.lexing.specs.declared.words.Number.the-variants as Number
+use Rattle.lexing.specs.declared.numbers.Number.{Number}
+use Rattle.lexing.specs.declared.numbers.Number.the-variants as Number
 
 -- the byte is a digit, and the number with it is at most `most`
 unfoldable pub digitFits : ℕ → ℕ → ℕ → Bool

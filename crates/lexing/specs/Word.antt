@@ -1,10 +1,9 @@
--- The words of a question, which are separated by one space each, and names. Assumes nothing.
+-- The words of a question, which are separated by one space each. Assumes nothing.
 use Prim.Native.Nat.{ℕ}
-use mathlib.Core.Bool.{Bool, true, false}
 use mathlib.Core.List.{List, [], _∷_}
 use lib.Dec.{eqb, leb}
 use lib.ListN.{length, drop}
-use Rattle.rules.specs.Choice.{pick, both}
+use Rattle.rules.specs.Choice.{pick}
 
 -- a byte in front of the first word
 abbrev pub onto : ℕ → List (List ℕ) → List (List ℕ)
@@ -20,10 +19,3 @@ wordsOf (x ∷ xs) = let more = wordsOf xs in pick (eqb x 32) ([] ∷ more) (ont
 unfoldable pub wordsAt : List ℕ → ℕ → List (List ℕ)
 unfolding wordsOf
 wordsAt question at = pick (leb at (length question)) (wordsOf (drop at question)) []
-
--- two words are the same
-unfoldable pub equal : List ℕ → List ℕ → Bool
-equal [] [] = true
-equal [] (y ∷ ys) = false
-equal (x ∷ xs) [] = false
-equal (x ∷ xs) (y ∷ ys) = both (eqb x y) (equal xs ys)

@@ -5,12 +5,12 @@ ghost use lib.Seq.{sets};
 ghost use mathlib.Core.Path.{_≡_};
 ghost use mathlib.Core.List.{[], _∷_};
 ghost use Rattle.lexing.specs.Lists.{Kinded, Keyed, Roomy, Listed, argumentsIn, entriesIn, numbersIn};
+use crate::numbers::Number;
+use crate::numbers::number_of;
 use crate::takes::word_end;
 use crate::texts::Filling;
 use crate::texts::take_text;
-use crate::words::Number;
-use crate::words::find;
-use crate::words::number_of;
+use octets::find;
 use units::stores::put_number;
 
 // The largest number of 32 bits.

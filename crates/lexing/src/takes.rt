@@ -2,11 +2,11 @@
 ghost use Prim.Native.Nat.{_≤_};
 ghost use lib.ListN.{length};
 ghost use Rattle.lexing.specs.Next.{Ends, Took, Counted};
+use crate::numbers::Number;
+use crate::numbers::number_of;
 use crate::texts::Filling;
 use crate::texts::take_text;
-use crate::words::Number;
-use crate::words::find;
-use crate::words::number_of;
+use octets::find;
 
 // The next word as a text: how many units it has, and where the word behind it starts.
 pub enum Next {

@@ -1,9 +1,9 @@
 // Prints lines that the entries over a slice of records build, with records by value: an ordinary line, a batch line, and two refusals.
 use libc::STDOUT_FILENO;
+use octets::widen;
 use rules::Arg;
 use rules::Built;
 use units::refusals;
-use units::stores;
 
 // A unit as one byte; a question mark for what is no printable byte.
 fn shown(unit: u16) -> u8 {
@@ -40,20 +40,6 @@ fn print_answer(answer: Built, out: &[u16]) {
         }
     }
     io::write_all(STDOUT_FILENO, b"\n");
-}
-
-// A byte as a unit.
-fn wide(byte: u8) -> u16 {
-    byte as u16
-}
-
-// The units of bytes: a unit for each, as far as there is room.
-fn put_bytes(bytes: &[u8], units: &mut [u16]) {
-    let mut i = 0;
-    while i < bytes.len() {
-        stores::put(units, i, wide(bytes[i]));
-        i += 1;
-    }
 }
 
 // The four records of an example, the third of a kind that is given.
@@ -113,10 +99,10 @@ fn print_all(program: &[u16], script: &[u16], text: &[u16]) {
 
 fn main() {
     let mut text = [0u16; 24];
-    put_bytes(b"one twosay \"hi\"\\100%/raw", &mut text);
+    widen(b"one twosay \"hi\"\\100%/raw", &mut text);
     let mut program = [0u16; 8];
-    put_bytes(b"p\\go.exe", &mut program);
+    widen(b"p\\go.exe", &mut program);
     let mut script = [0u16; 6];
-    put_bytes(b"go.bat", &mut script);
+    widen(b"go.bat", &mut script);
     print_all(&program, &script, &text);
 }

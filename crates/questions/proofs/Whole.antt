@@ -11,7 +11,8 @@ use borrow.Author.Tests.{lt-ltb, le-ltb, le-leb}
 use Rattle.rules.specs.Choice.{pick}
 use Rattle.rules.specs.Unit.{units}
 use Rattle.lexing.specs.Text.{Taken, ill}
-use Rattle.lexing.specs.Word.{equal, wordsOf, wordsAt}
+use Rattle.laws.specs.Equal.{equal}
+use Rattle.lexing.specs.Word.{wordsOf, wordsAt}
 use Rattle.lexing.specs.Next.{Ends}
 use Rattle.questions.specs.Verb.{lentVerbOf, verbOf, lentAnswer, verbAnswer, wordsAnswer, answerTo}
 use Rattle.questions.specs.declared.Verb.{Verb}

@@ -7,7 +7,8 @@ use lib.ListN.{length}
 use Rattle.rules.specs.Choice.{pick}
 use Rattle.rules.specs.Unit.{units}
 use Rattle.lexing.specs.Text.{Taken, ill}
-use Rattle.lexing.specs.Word.{equal, wordsOf}
+use Rattle.laws.specs.Equal.{equal}
+use Rattle.lexing.specs.Word.{wordsOf}
 use Rattle.asking.specs.Ask.{builder, readAnswer, lineAnswer, envAnswer, suffixAnswer, statusAnswer}
 use Rattle.lending.specs.Lend.{lentLineAnswer, lentEnvAnswer, lentStatusAnswer, lentReadAnswer, partAnswer}
 use Rattle.questions.specs.declared.LentVerb.{LentVerb}

@@ -1,5 +1,5 @@
 // The verb of a question, and the question put to what its verb asks.
-ghost use Prim.Native.Nat.{ℕ, min};
+ghost use Prim.Native.Nat.{ℕ};
 ghost use mathlib.Core.List.{List};
 ghost use mathlib.Core.Path.{_≡_};
 ghost use lib.ListN.{length};
@@ -9,7 +9,7 @@ ghost use Rattle.questions.specs.Verb.{verbOf, lentVerbOf, lentAnswer, v
 use asking::asked;
 use asking::replies::headed;
 use lexing::takes::word_end;
-use lexing::words::same;
+use octets::same;
 use showing::pieces::Answer;
 use showing::shows::Head;
 use units::parts::smaller;

@@ -11,10 +11,9 @@ use Rattle.rules.specs.Choice.{pick, flip}
 use Rattle.rules.specs.Unit.{isBackslash}
 use Rattle.rules.specs.Quoting.{slashes}
 use Rattle.laws.specs.Scan.{before, leading-in, trailing}
-use Rattle.quoting.specs.Appended.{Placed}
 use Rattle.quoting.specs.Emitted.{isMark, markFor, emitted}
 use Rattle.quoting.proofs.Emitting.{before-stops, run-first}
-use Rattle.quoting.proofs.Placing.{Left, less-left}
+use Rattle.laws.specs.Placed.{Left, Placed, less-left}
 
 -- a run before the next mark is as long as its scan says
 pub run-length : (p : ℕ → Bool) (rest : List ℕ) (n : ℕ) → n ≡ before p rest → n ≡ length (take n rest)

@@ -5,7 +5,7 @@ ghost use lib.ListN.{length, replicate};
 ghost use Rattle.rules.specs.Choice.{pick};
 ghost use Rattle.rules.specs.Unit.{quote};
 ghost use Rattle.rules.specs.Quoting.{slashes};
-ghost use Rattle.quoting.specs.Appended.{Appended, Placed};
+ghost use Rattle.laws.specs.Placed.{Appended, Placed};
 ghost use Rattle.quoting.specs.Emitted.{markFor, emitted, formed};
 use crate::scans;
 use units::stores;

@@ -7,7 +7,7 @@ ghost use Rattle.rules.specs.Batch.{batchForm};
 ghost use Rattle.rules.specs.Record.{isRegular};
 ghost use Rattle.rules.specs.Building.{written};
 ghost use Rattle.units.specs.Table.{classTable};
-ghost use Rattle.quoting.specs.Appended.{Appended};
+ghost use Rattle.laws.specs.Placed.{Appended};
 use units::stores;
 
 pub mod decisions;

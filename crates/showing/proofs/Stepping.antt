@@ -16,7 +16,7 @@ use Rattle.laws.specs.Parts.{take-min}
 use Rattle.rules.specs.Choice.{pick, both, flip, isEmpty}
 use Rattle.rules.specs.Unit.{units}
 use Rattle.rules.specs.Record.{part}
-use Rattle.rules.specs.Status.{digits}
+use Rattle.octets.specs.Braced.{braced, braced-short}
 use Rattle.lexing.specs.Form.{isPlain, shownUnit, shownEach, shown}
 use Rattle.showing.specs.Show.{decimal, spacedNumber, signedNumber, headBytes}
 use Rattle.showing.specs.Piece.{spacedTexts, spacedNumbers, textsOf, current, restBytes, aloneBytes, leftBytes, Clipped, opening, front, fittedTo, placedAt, begunOf, unitOf, textOpened, numberPut, doneOf, Moved, isRoom, Fits, Ready, Turned, Went}
@@ -24,7 +24,8 @@ use Rattle.showing.specs.declared.shows.Head.{Head}
 use Rattle.showing.specs.declared.shows.Head.the-variants as Head
 use Rattle.showing.specs.declared.pieces.Answer.{Answer}
 use Rattle.showing.specs.declared.pieces.Span.{Span}
-use Rattle.showing.proofs.Putting.{digits-short, spaced-short}
+use Rattle.laws.specs.Digits.{digits-short}
+use Rattle.showing.proofs.Putting.{spaced-short}
 
 -- ---- parts
 
@@ -123,13 +124,12 @@ regroup u v w more end e = rw e (simp append-assoc)
 -- ---- how many bytes
 
 some-unit : (unit : ℕ) → (0 < length (shownUnit true unit)) × (length (shownUnit true unit) ≤ 64)
-unfolding shownUnit
-some-unit unit = go (isPlain true unit) (rw length-append (omega (arith, digits-short 16 3 unit)))
+unfolding shownUnit braced
+some-unit unit = go (isPlain true unit)
   where
-    go : (b : Bool) → (0 < length (123 ∷ digits 16 3 unit ++ 125 ∷ [])) × (length (123 ∷ digits 16 3 unit ++ 125 ∷ []) ≤ 64)
-        → (0 < length (pick b (unit ∷ []) (123 ∷ digits 16 3 unit ++ 125 ∷ []))) × (length (pick b (unit ∷ []) (123 ∷ digits 16 3 unit ++ 125 ∷ [])) ≤ 64)
-    go true h = (omega arith, omega arith)
-    go false h = h
+    go : (b : Bool) → (0 < length (pick b (unit ∷ []) (braced unit))) × (length (pick b (unit ∷ []) (braced unit)) ≤ 64)
+    go true = (omega arith, omega arith)
+    go false = (omega arith, omega (arith, braced-short unit))
 
 some-signed : (negative : Bool) (n : ℕ) → (0 < length (signedNumber negative n)) × (length (signedNumber negative n) ≤ 64)
 unfolding signedNumber spacedNumber decimal
@@ -321,10 +321,10 @@ module _ (out spans numbers : List ℕ) where
       let w = t .bytes in
       let p = t .puts in
       let l : r .at + length w ≤ length piece = omega (arith, d .room, t .short) in
-      let k : take (s .at) after ≡ take (r .at) piece ++ w = rw (p .stores, p .counts) (take-sets piece (r .at) w l) in
+      let k : take (s .at) after ≡ take (r .at) piece ++ w = rw (p .stores, p .ends) (take-sets piece (r .at) w l) in
       record {
         whole = rw (k, append-assoc (take (r .at) piece) w) (ap (λ (l : List ℕ). take (r .at) piece ++ l) (sym (t .still)) ∙ g .whole);
-        within = λ h. omega (arith, p .counts, g .same);
+        within = λ h. omega (arith, p .ends, g .same);
         same = ap length (p .stores) ∙ length-sets piece (r .at) w ∙ g .same;
         fits = t .fits;
       }
@@ -343,4 +343,4 @@ module _ (out spans numbers : List ℕ) where
   room-falls {r} {s} {piece} {after} d t =
       let p = t .puts in
       let e : length after ≡ length piece = ap length (p .stores) ∙ length-sets piece (r .at) (t .bytes) in
-      omega (arith, d .room, t .some, t .short, p .counts)
+      omega (arith, d .room, t .some, t .short, p .ends)

@@ -9,7 +9,8 @@ use Rattle.rules.specs.Choice.{pick, both, flip}
 use Rattle.rules.specs.Unit.{units}
 use Rattle.rules.specs.Record.{part}
 use Rattle.lexing.specs.Form.{shown, shownEach}
-use Rattle.showing.specs.Show.{Put, signedNumber, headBytes}
+use Rattle.laws.specs.Placed.{Placed}
+use Rattle.showing.specs.Show.{signedNumber, headBytes}
 use Rattle.showing.specs.declared.shows.Head.{Head}
 use Rattle.showing.specs.declared.pieces.Answer.{Answer}
 use Rattle.showing.specs.declared.pieces.Span.{Span}
@@ -144,7 +145,7 @@ doneOf a = further a (a .begun) true (a .at) (spanOf a) (a .text) (a .number)
 
 -- bytes are put, and the answer is the next one with the place behind them
 pub record Moved (bytes : List ℕ) (a next r : Answer) (before after : List ℕ) : Type 0 where
-  pub puts : Put bytes (a .at) (r .at) before after
+  pub puts : Placed bytes (a .at) (r .at) before after
   pub moves : r ≡ placedAt next (r .at)
 
 -- a step may follow: the answer is not done, and the piece has room for any step
@@ -168,7 +169,7 @@ pub record Turned (out spans numbers : List ℕ) (a r : Answer) (before after : 
   pub bytes : List ℕ
   pub some : 0 < length bytes
   pub short : length bytes ≤ 64
-  pub puts : Put bytes (a .at) (r .at) before after
+  pub puts : Placed bytes (a .at) (r .at) before after
   pub still : leftBytes out spans numbers a ≡ bytes ++ leftBytes out spans numbers r
   pub fits : Fits out spans numbers r
 

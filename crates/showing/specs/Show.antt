@@ -1,19 +1,11 @@
 -- The bytes of an answer's parts, and what putting bytes into a lent piece promises. Assumes nothing.
-use Prim.Native.Nat.{ℕ, _+_}
-use mathlib.Core.Path.{_≡_}
+use Prim.Native.Nat.{ℕ}
 use mathlib.Core.Bool.{Bool, true, false}
 use mathlib.Core.List.{List, _∷_, _++_}
-use lib.ListN.{length}
-use lib.Seq.{sets}
 use Rattle.rules.specs.Unit.{units}
 use Rattle.rules.specs.Status.{digits}
 use Rattle.showing.specs.declared.shows.Head.{Head}
 use Rattle.showing.specs.declared.shows.Head.the-variants as Head
-
--- the bytes are put from `at` on, as far as there are places, and r is behind them
-pub record Put (bytes : List ℕ) (at r : ℕ) (before after : List ℕ) : Type 0 where
-  pub counts : r ≡ at + length bytes
-  pub stores : after ≡ sets before at bytes
 
 -- a number below 2 ^ 64 in decimal: it has at most 20 digits
 unfoldable pub decimal : ℕ → List ℕ

@@ -2,18 +2,19 @@
 ghost use mathlib.Core.Path.{_≡_};
 ghost use mathlib.Core.Bool.{true};
 ghost use mathlib.Core.List.{[], _∷_};
-ghost use Prim.Native.Nat.{_+_, _*_, _<_, _^_, min};
+ghost use Prim.Native.Nat.{_+_, _*_, _<_, _^_};
 ghost use lib.Dec.{leb};
 ghost use lib.ListN.{length, getD};
 ghost use Rattle.lexing.specs.Form.{shownUnit};
-ghost use Rattle.showing.specs.Show.{Put, signedNumber};
+ghost use Rattle.laws.specs.Placed.{Placed};
+ghost use Rattle.showing.specs.Show.{signedNumber};
 ghost use Rattle.showing.specs.Piece.{Clipped, fittedTo, placedAt, opening, front, isRoom, Moved, begunOf, unitOf, textOpened, numberPut, doneOf, Ready, Turned, Went};
 use crate::shows::Head;
-use crate::shows::put_byte;
-use crate::shows::put_bytes;
 use crate::shows::put_head;
 use crate::shows::put_signed;
 use crate::shows::put_unit;
+use octets::digits::put_one;
+use octets::put_run;
 use units::parts::smaller;
 
 // An answer, and how far it is put into pieces.
@@ -82,18 +83,18 @@ fn fit(a: Answer, units: usize, places: usize, numbers: usize) -> Answer
 // A space, and the form of an empty text where the text is empty.
 fn open_text(piece: &mut [u8], at: usize, empty: bool) -> usize
     requires { ⌜ at + 3 < 2 ^ 64 ⌝ }
-    ensures { λ r. ⌜ Put (opening empty) at r (now (piece .entry)) (now (piece .exit)) ⌝ }
+    ensures { λ r. ⌜ Placed (opening empty) at r (now (piece .entry)) (now (piece .exit)) ⌝ }
 {
     if empty {
-        return put_bytes(piece, at, b" {}");
+        return put_run(piece, at, b" {}");
     }
-    put_byte(piece, at, 32)
+    put_one(piece, at, 32)
 }
 
 // The head, and the opening of a text of its own where there is one.
 fn put_front(piece: &mut [u8], at: usize, head: Head, alone: bool, empty: bool) -> usize
     requires { ⌜ at + 2048 < 2 ^ 64 ⌝ }
-    ensures { λ r. ⌜ Put (front head alone empty) at r (now (piece .entry)) (now (piece .exit)) ⌝ }
+    ensures { λ r. ⌜ Placed (front head alone empty) at r (now (piece .entry)) (now (piece .exit)) ⌝ }
 {
     let next = put_head(piece, at, head);
     if alone {
@@ -173,7 +174,7 @@ fn finish(a: Answer, piece: &mut [u8]) -> Answer
     ensures { λ r. ⌜ Moved (10 ∷ []) a (doneOf a) r (now (piece .entry)) (now (piece .exit)) ⌝ }
 {
     let mut r = a;
-    r.at = put_byte(piece, a.at, 10);
+    r.at = put_one(piece, a.at, 10);
     r.done = true;
     r
 }

@@ -8,7 +8,7 @@ use lib.ListN.{length, drop, set, length-set, drop-of-length-le}
 use lib.Seq.{drop-cons, getD-set-same, drop-set-lt}
 use borrow.Author.Tests.{lt-ltb, le-ltb}
 use Rattle.rules.specs.Status.{glyph, digits}
-use Rattle.status.specs.Digits.{fewer}
+use Rattle.laws.specs.Digits.{fewer}
 use Rattle.status.specs.Text.{Laid}
 
 -- ---- the digits of a number

@@ -1,6 +1,6 @@
 -- The digits that the rules write are the number's: in their base they stand for the number, and none in front could be left out. Assumes nothing.
 use Prim.Native.Nat.{ℕ, zero, suc, _+_, _*_, _-_, _/_, _%_, _^_, _≤_, _<_}
-use native.Mathlib.Nat.{mod-lt, mod-eq-of-lt, div-add-mod', div-lt-iff-lt-mul, le-div-iff-mul-le, pow-zero, pow-suc, one-mul}
+use native.Mathlib.Nat.{mod-lt, mod-eq-of-lt, div-add-mod', le-div-iff-mul-le, one-mul}
 use native.Mathlib.Omega.{arith}
 use mathlib.Core.Path.{_≡_, refl, sym, ap, _∙_}
 use mathlib.Core.Bool.{Bool, true, false}
@@ -10,6 +10,7 @@ use lib.ListN.{length, getD, length-append, List·getD-append}
 use borrow.Author.Tests.{ltb-true, ltb-false, lt-ltb, le-ltb, eq-eqb}
 use Rattle.rules.specs.Choice.{pick, either, both, flip, any}
 use Rattle.rules.specs.Status.{glyph, digits}
+use Rattle.laws.specs.Digits.{fewer, one-place}
 
 -- ---- what units stand for
 
@@ -93,17 +94,13 @@ more-digits {base} {n} units b h higher =
       front = λ e. absurd (omega (arith, higher .front (sym (List·getD-append units (glyph (n % base) ∷ []) 0 0 (higher .some)) ∙ e)));
     }
 
--- what is left of a number without its last digit
-pub fewer : (base fuel n : ℕ) → 1 < base → n < base ^ suc (suc fuel) → n / base < base ^ suc fuel
-fewer base fuel n b h = let z : 0 < base = omega arith in div-lt-iff-lt-mul z .1 (rw (pow-suc base (suc fuel)) at h)
-
 -- ---- the digits that the rules write
 
 -- where there are digits enough, they are the number's
 pub numeral : (base fuel n : ℕ) → 1 < base → n < base ^ suc fuel → Numeral base n (digits base fuel n)
 unfolding digits
 numeral base zero n b h =
-    let l : n < base = rw (pow-suc base 0, pow-zero, one-mul) at h in
+    let l : n < base = one-place base n h in
     rw (mod-eq-of-lt l) (one-digit base n l)
 numeral base (suc fuel) n b h = go (ltb n base) refl (numeral base fuel (n / base) b (fewer base fuel n b h))
   where

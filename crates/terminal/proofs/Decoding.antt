@@ -11,10 +11,9 @@ use lib.Seq.{drop-drop}
 use borrow.Author.Tests.{eq-eqb, ne-eqb}
 use Rattle.rules.specs.Choice.{pick}
 use Rattle.laws.specs.Store.{part-is}
-use Rattle.quoting.specs.Appended.{Placed}
+use Rattle.laws.specs.Placed.{Left, Placed, less-left}
 use Rattle.terminal.specs.declared.utf8.Scalar.{Scalar}
 use Rattle.terminal.specs.Utf8.{scalarOf, unitsOf, scalarsFrom, scalars, bytesOf, textOf, goodBytes, goodUnits, Decoded}
-use Rattle.terminal.proofs.Placing.{Left, less-left}
 use Rattle.terminal.proofs.Sequence.{scalar-in}
 
 -- ---- characters one after another
@@ -57,13 +56,13 @@ pub record Reading (bytes before out : List ℕ) (i to : ℕ) : Type 0 where
   pub within : i ≤ length bytes
   pub few : to ≤ 2 * i
   pub reads : i + bytesOf (scalars (drop i bytes)) ≡ goodBytes bytes
-  pub still : Left (goodUnits bytes) before (textOf (scalars (drop i bytes))) to out
+  pub still : Left (goodUnits bytes) 0 before (textOf (scalars (drop i bytes))) to out
 
 module _ {bytes before : List ℕ} where
   -- nothing is read yet
   pub none-read : Reading bytes before before 0 0
   unfolding goodBytes goodUnits
-  none-read = record { within = omega arith; few = omega arith; reads = zero-add _; still = record { counts = zero-add _; stores = refl } }
+  none-read = record { within = omega arith; few = omega arith; reads = zero-add _; still = record { counts = refl; stores = refl } }
 
   -- one character more
   pub one-read : {out out′ : List ℕ} {i to to′ : ℕ} {next : Scalar} → Reading bytes before out i to → i < length bytes

@@ -3,7 +3,6 @@ pub mod Placing
 pub mod Sequence
 pub mod Decoding
 pub mod Showing
-pub mod Hex
 pub mod Wording
 pub mod Counting
 pub mod Signs

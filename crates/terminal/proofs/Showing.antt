@@ -1,24 +1,22 @@
 -- Units shown one after another. Assumes nothing.
 use Prim.Native.Nat.{ℕ, suc, _+_, _-_, _≤_, _<_}
-use native.Mathlib.Nat.{add-zero, zero-add}
+use native.Mathlib.Nat.{add-zero}
 use native.Mathlib.Numerals.{add-one}
 use native.Mathlib.Omega.{arith}
 use mathlib.Core.Path.{_≡_, refl, sym, _∙_}
 use mathlib.Core.Bool.{Bool, true, false}
 use mathlib.Core.List.{List, [], _∷_, _++_, append-nil}
 use lib.Dec.{ltb}
-use lib.ListN.{length, getD, take, drop, length-append, length-drop, drop-of-length-le}
+use lib.ListN.{length, getD, take, drop, length-drop, drop-of-length-le}
 use lib.Seq.{sets, drop-cons, drop-drop, getD-drop}
 use Rattle.rules.specs.Choice.{pick, either}
 use Rattle.rules.specs.Unit.{within}
-use Rattle.rules.specs.Status.{digits}
 use Rattle.laws.specs.Choice.{choose}
 use Rattle.laws.specs.Store.{part-is, sets-out}
-use Rattle.quoting.specs.Appended.{Placed}
-use Rattle.terminal.specs.Shown.{hidden, inRanges, isPair, startsWithPair, joined, isHidden, escape, utf8, single, shown, Clipped}
+use Rattle.laws.specs.Placed.{Left, Placed, less-left, same-left}
+use Rattle.terminal.specs.Shown.{hidden, inRanges, isPair, startsWithPair, joined, isHidden, utf8, single, shown, Clipped}
 use Rattle.terminal.proofs.Ranges.{both-true, in-bounds}
-use Rattle.terminal.proofs.Placing.{Left, less-left, same-left}
-use Rattle.terminal.proofs.Hex.{few-digits}
+use Rattle.octets.specs.Braced.{braced, braced-short}
 
 -- ---- ranges
 
@@ -98,7 +96,7 @@ alone xs i l e h =
 
 module _ (x : ℕ) {ranges : List ℕ} {t : Bool} (h : ranges ≡ hidden) (e : t ≡ inRanges ranges x) where
   -- a unit that cannot be seen
-  pub escaped : t ≡ true → single x ≡ escape x
+  pub escaped : t ≡ true → single x ≡ braced x
   unfolding single isHidden
   escaped y = let g : inRanges hidden x ≡ true = rw h at (sym e ∙ y) in rw g
 
@@ -113,12 +111,12 @@ module _ (x : ℕ) {ranges : List ℕ} {t : Bool} (h : ranges ≡ hidden) (e : t
 pub record Showing (units before out : List ℕ) (i to : ℕ) : Type 0 where
   pub within : i ≤ length units
   pub near : to ≤ length before + 6
-  pub still : Left (shown units) before (shown (drop i units)) to out
+  pub still : Left (shown units) 0 before (shown (drop i units)) to out
 
 module _ {units before : List ℕ} where
   -- nothing is shown yet
   pub none-shown : Showing units before before 0 0
-  none-shown = record { within = omega arith; near = omega arith; still = record { counts = zero-add _; stores = refl } }
+  none-shown = record { within = omega arith; near = omega arith; still = record { counts = refl; stores = refl } }
 
   -- a piece more
   pub piece-shown : {out out′ piece : List ℕ} {i i′ to to′ : ℕ} → Showing units before out i to → shown (drop i units) ≡ piece ++ shown (drop i′ units)
@@ -155,11 +153,7 @@ pub few-bytes : (v : ℕ) → length (utf8 v) ≤ 4
 unfolding utf8
 few-bytes v = one-to-four (ltb v 128) (ltb v 2048) (ltb v 65536) _ _ _ _ _ _ _ _ _ _
 
-few-escaped : (x : ℕ) → length (escape x) ≤ 6
-unfolding escape
-few-escaped x = let e = length-append (digits 16 3 x) (125 ∷ []) in omega (arith, few-digits x)
-
 -- a unit has at most six
 pub few-single : (x : ℕ) → length (single x) ≤ 6
 unfolding single
-few-single x = let u : length (utf8 x) ≤ 6 = omega (arith, few-bytes x) in choose (λ (l : List ℕ). length l ≤ 6) (isHidden x) (few-escaped x) u
+few-single x = let u : length (utf8 x) ≤ 6 = omega (arith, few-bytes x) in choose (λ (l : List ℕ). length l ≤ 6) (isHidden x) (braced-short x) u

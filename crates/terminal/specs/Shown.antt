@@ -8,7 +8,7 @@ use lib.ListN.{length}
 use lib.Seq.{sets}
 use Rattle.rules.specs.Choice.{pick, either, both}
 use Rattle.rules.specs.Unit.{within}
-use Rattle.rules.specs.Status.{digits}
+use Rattle.octets.specs.Braced.{braced}
 
 -- ---- what is hidden
 
@@ -48,15 +48,10 @@ utf8 v =
     ((224 + v / 4096) ∷ (128 + v / 64 % 64) ∷ (128 + v % 64) ∷ [])
     ((240 + v / 262144) ∷ (128 + v / 4096 % 64) ∷ (128 + v / 64 % 64) ∷ (128 + v % 64) ∷ [])))
 
--- a unit as `{hex}`: lower case, no leading zeros
-unfoldable pub escape : ℕ → List ℕ
-unfolding digits
-escape x = 123 ∷ digits 16 3 x ++ 125 ∷ []
-
 -- a unit that has no partner
 unfoldable pub single : ℕ → List ℕ
-unfolding isHidden utf8 escape
-single x = pick (isHidden x) (escape x) (utf8 x)
+unfolding isHidden utf8 braced
+single x = pick (isHidden x) (braced x) (utf8 x)
 
 -- the character of a high and a low surrogate
 abbrev pub joined : ℕ → ℕ → ℕ

@@ -11,16 +11,10 @@ use borrow.Author.Tests.{leb-true}
 use Rattle.rules.specs.Choice.{pick, both}
 use Rattle.rules.specs.Unit.{units, equals}
 use Rattle.laws.specs.Scan.{before}
+use Rattle.laws.specs.Equal.{equal}
 use Rattle.terminal.specs.Number.{largest}
 use Rattle.terminal.specs.declared.words.Command.{Command}
 use Rattle.terminal.specs.declared.words.Command.the-variants as Command
-
--- two lists of numbers are the same
-unfoldable pub equal : List ℕ → List ℕ → Bool
-equal [] [] = true
-equal [] (y ∷ ys) = false
-equal (x ∷ xs) [] = false
-equal (x ∷ xs) (y ∷ ys) = both (eqb x y) (equal xs ys)
 
 -- the command that a word names
 unfoldable pub commandOf : List ℕ → Command

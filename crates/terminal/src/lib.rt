@@ -1,5 +1,4 @@
 // What a tool at a terminal needs: words in UTF-8 into units, units into bytes that can be shown, numbers, commands and messages.
-pub mod bytes;
 pub mod messages;
 pub mod numbers;
 pub mod shown;

@@ -1,7 +1,7 @@
 // What a person is told of a refusal.
-ghost use Rattle.quoting.specs.Appended.{Appended};
+ghost use Rattle.laws.specs.Placed.{Appended};
 ghost use Rattle.terminal.specs.Message.{nameOf, adviceOf};
-use crate::bytes::put_text;
+use octets::put_text;
 use rules::Refusal;
 
 // The refusal's name.

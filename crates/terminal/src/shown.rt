@@ -2,10 +2,10 @@
 ghost use mathlib.Core.Path.{_≡_};
 ghost use Prim.Native.Nat.{_+_, _<_, _≤_, _^_};
 ghost use Rattle.rules.specs.Unit.{within};
-ghost use Rattle.rules.specs.Status.{glyph, digits};
-ghost use Rattle.quoting.specs.Appended.{Placed};
-ghost use Rattle.terminal.specs.Shown.{hidden, inRanges, startsWithPair, joined, utf8, escape, single, shown, Clipped};
-use crate::bytes::put_run;
+ghost use Rattle.laws.specs.Placed.{Placed};
+ghost use Rattle.terminal.specs.Shown.{hidden, inRanges, startsWithPair, joined, utf8, single, shown, Clipped};
+use octets::digits::put_braced;
+use octets::put_run;
 
 // Ranges of units that cannot be seen, least and most in turn.
 const HIDDEN: [u16; 44] = [
@@ -120,64 +120,13 @@ fn put_utf8(out: &mut [u8], at: usize, value: u32) -> usize
     put_run(out, at, &four)
 }
 
-// The byte of a hexadecimal digit.
-fn glyph_of(digit: u16) -> u8
-    requires { ⌜ digit < 16 ⌝ }
-    ensures { λ r. ⌜ r ≡ glyph digit ⌝ }
-{
-    let byte = digit as u8;
-    if byte < 10 {
-        return 48 + byte;
-    }
-    87 + byte
-}
-
-// The hexadecimal digits of a unit, none in front that could be left out.
-fn put_hex(out: &mut [u8], at: usize, unit: u16) -> usize
-    requires { ⌜ at + 4 < 2 ^ 64 ⌝ }
-    ensures { λ r. ⌜ Placed (digits 16 3 unit) at r (now (out .entry)) (now (out .exit)) ⌝ }
-{
-    let last = glyph_of(unit % 16);
-    if unit < 16 {
-        let one = [last];
-        return put_run(out, at, &one);
-    }
-    let a = unit / 16;
-    let third = glyph_of(a % 16);
-    if a < 16 {
-        let two = [third, last];
-        return put_run(out, at, &two);
-    }
-    let b = a / 16;
-    let second = glyph_of(b % 16);
-    if b < 16 {
-        let three = [second, third, last];
-        return put_run(out, at, &three);
-    }
-    let first = glyph_of(b / 16 % 16);
-    let four = [first, second, third, last];
-    put_run(out, at, &four)
-}
-
-// A unit as `{hex}`.
-fn put_escape(out: &mut [u8], at: usize, unit: u16) -> usize
-    requires { ⌜ at + 6 < 2 ^ 64 ⌝ }
-    ensures { λ r. ⌜ Placed (escape unit) at r (now (out .entry)) (now (out .exit)) ⌝ }
-{
-    let open = [123u8];
-    let close = [125u8];
-    let from = put_run(out, at, &open);
-    let to = put_hex(out, from, unit);
-    put_run(out, to, &close)
-}
-
 // A unit that has no partner.
 fn put_single(out: &mut [u8], at: usize, unit: u16, ranges: &[u16]) -> usize
-    requires { ⌜ (at + 6 < 2 ^ 64) × (now ranges ≡ hidden) ⌝ }
+    requires { ⌜ (at + 128 < 2 ^ 64) × (now ranges ≡ hidden) ⌝ }
     ensures { λ r. ⌜ Placed (single unit) at r (now (out .entry)) (now (out .exit)) ⌝ }
 {
     if in_ranges(ranges, unit) {
-        return put_escape(out, at, unit);
+        return put_braced(out, at, unit);
     }
     put_utf8(out, at, unit as u32)
 }

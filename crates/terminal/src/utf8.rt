@@ -2,7 +2,7 @@
 ghost use mathlib.Core.Path.{_≡_};
 ghost use Prim.Native.Nat.{_+_, _<_, _≤_, _^_};
 ghost use lib.ListN.{length};
-ghost use Rattle.quoting.specs.Appended.{Placed};
+ghost use Rattle.laws.specs.Placed.{Placed};
 ghost use Rattle.terminal.specs.Utf8.{leadOf, isTail, isWhole, valueOf, scalarOf, unitsOf, Decoded};
 use units::stores::put;
 

@@ -1,7 +1,9 @@
 // The words of a call: commands, entries, and the places of words in a text.
 ghost use mathlib.Core.Path.{_≡_};
 ghost use Rattle.laws.specs.Scan.{before};
-ghost use Rattle.terminal.specs.Word.{equal, isEquals, commandOf, isForce, keyLength, Spanned};
+ghost use Rattle.laws.specs.Equal.{equal};
+ghost use Rattle.terminal.specs.Word.{isEquals, commandOf, isForce, keyLength, Spanned};
+use octets::same;
 use units::stores::put_number;
 
 // What a call asks for.
@@ -14,23 +16,6 @@ pub enum Command {
     Suffix,
     Help,
     Unknown,
-}
-
-// Whether two runs of bytes are the same.
-pub fn same_bytes(a: &[u8], b: &[u8]) -> bool
-    ensures { λ r. ⌜ r ≡ equal (now (a .entry)) (now (b .entry)) ⌝ }
-{
-    if a.len() != b.len() {
-        return false;
-    }
-    let mut i = 0;
-    while i < a.len() {
-        if a[i] != b[i] {
-            return false;
-        }
-        i += 1;
-    }
-    true
 }
 
 // Whether two runs of units are the same.
@@ -54,25 +39,25 @@ pub fn same_units(a: &[u16], b: &[u16]) -> bool
 pub fn command_of(word: &[u8]) -> Command
     ensures { λ r. ⌜ r ≡ commandOf (now (word .entry)) ⌝ }
 {
-    if same_bytes(word, b"read") {
+    if same(word, b"read") {
         return Command::Read;
     }
-    if same_bytes(word, b"write") {
+    if same(word, b"write") {
         return Command::Write;
     }
-    if same_bytes(word, b"batch") {
+    if same(word, b"batch") {
         return Command::Batch;
     }
-    if same_bytes(word, b"env") {
+    if same(word, b"env") {
         return Command::Env;
     }
-    if same_bytes(word, b"status") {
+    if same(word, b"status") {
         return Command::Status;
     }
-    if same_bytes(word, b"suffix") {
+    if same(word, b"suffix") {
         return Command::Suffix;
     }
-    if same_bytes(word, b"help") {
+    if same(word, b"help") {
         return Command::Help;
     }
     Command::Unknown
@@ -82,7 +67,7 @@ pub fn command_of(word: &[u8]) -> Command
 pub fn is_force(word: &[u8]) -> bool
     ensures { λ r. ⌜ r ≡ isForce (now (word .entry)) ⌝ }
 {
-    same_bytes(word, b"--force")
+    same(word, b"--force")
 }
 
 // The index of the first `=`, or the length where there is none.

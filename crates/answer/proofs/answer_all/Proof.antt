@@ -1,20 +1,13 @@
 -- `answer::answer_all` meets its contract. Assumes nothing.
 use borrow.Author.Needs.{needs}
-use Prim.Native.Nat.{_-_, _<_, _≤_}
-use mathlib.Core.Path.{_∙_, _≡_, refl, sym}
+use Prim.Native.Nat.{_≤_}
+use mathlib.Core.Path.{_≡_, sym}
 use lib.ListN.{length}
 use lib.Seq.{length-take-le}
 use native.Mathlib.Omega.{arith}
 use Rattle.answer.proofs.Held.{Held}
 use Rattle.answer.proofs.answer_all.Statement.{statement}
 use Rattle.answer.proofs.answer_all.Tie as tie
-use Rattle.answer.proofs.answer_all.Reads as reads
-use Rattle.answer.proofs.answer_all.Lts as lts
-use Rattle.answer.proofs.last_line.Reads as last-line-reads
-use Rattle.answer.proofs.take_lines.Reads as take-lines-reads
-use Rattle.io.proofs.count.Reads as count-reads
-use Rattle.io.proofs.write_all.Reads as write-all-reads
-use Rattle.libc.proofs.read.Reads as read-reads
 
 abbrev Inv-loop : tie.InvT-loop
 Inv-loop chunk₀ line₀ name₀ text₀ numbers₀ out₀ spans₀ piece₀ turns₀ size₀ chunk line name text numbers out spans piece turns size =

@@ -1,15 +1,11 @@
 -- `answer::gather` meets its contract. Assumes nothing.
 use borrow.Author.Needs.{needs}
 use Prim.Native.Nat.{_-_, _<_, _≤_}
-use mathlib.Core.Path.{_∙_, _≡_, refl, sym}
+use mathlib.Core.Path.{_≡_}
 use lib.ListN.{length, length-set}
-use lib.Seq.{length-take-le}
 use native.Mathlib.Omega.{arith}
-use Rattle.answer.proofs.Held.{Held}
 use Rattle.answer.proofs.gather.Statement.{statement}
 use Rattle.answer.proofs.gather.Tie as tie
-use Rattle.answer.proofs.gather.Reads as reads
-use Rattle.answer.proofs.gather.Lts as lts
 
 abbrev Inv-loop : tie.InvT-loop
 Inv-loop chunk from line₀ size n₀ i₀ line n i = (length line ≡ length line₀) × (n ≤ length line) × (from < length chunk) × (from ≤ i) × (i ≤ length chunk)

@@ -4,9 +4,6 @@ use mathlib.Core.Path.{sym}
 use lib.Seq.{length-take-le}
 use Rattle.answer.proofs.last_line.Statement.{statement}
 use Rattle.answer.proofs.last_line.Tie as tie
-use Rattle.answer.proofs.last_line.Reads as reads
-use Rattle.answer.proofs.last_line.Lts as lts
-use Rattle.answer.proofs.reply.Reads as reply-reads
 
 returns : tie.Need-returns
 returns c = search needs

@@ -2,11 +2,6 @@
 use borrow.Author.Needs.{needs}
 use Rattle.answer.proofs.reply.Statement.{statement}
 use Rattle.answer.proofs.reply.Tie as tie
-use Rattle.answer.proofs.reply.Reads as reads
-use Rattle.answer.proofs.reply.Lts as lts
-use Rattle.answer.proofs.show.Reads as show-reads
-use Rattle.questions.proofs.ask.Reads as ask-reads
-use Rattle.showing.proofs.pieces.placed.Reads as placed-reads
 
 ask-requires : tie.Need-ask-requires
 ask-requires c κs = search needs

@@ -1,18 +1,12 @@
 -- `answer::show` meets its contract. Assumes nothing.
 use borrow.Author.Needs.{needs}
-use Prim.Native.Nat.{_+_, _-_, _<_, _≤_}
+use Prim.Native.Nat.{_≤_}
 use mathlib.Core.Path.{_∙_, _≡_, refl, sym}
 use lib.ListN.{length}
 use lib.Seq.{length-take-le}
 use native.Mathlib.Omega.{arith}
-use Rattle.answer.proofs.Held.{Held}
 use Rattle.answer.proofs.show.Statement.{statement}
 use Rattle.answer.proofs.show.Tie as tie
-use Rattle.answer.proofs.show.Reads as reads
-use Rattle.answer.proofs.show.Lts as lts
-use Rattle.io.proofs.write_all.Reads as write-all-reads
-use Rattle.showing.proofs.pieces.go_on.Reads as go-on-reads
-use Rattle.showing.proofs.pieces.placed.Reads as placed-reads
 
 abbrev Inv-loop : tie.InvT-loop
 Inv-loop numbers out spans piece₀ turns₀ r₀ piece turns r = (length piece ≡ length piece₀) × (r .at ≤ length piece)

@@ -1,17 +1,13 @@
 -- `answer::take_lines` meets its contract. Assumes nothing.
 use borrow.Author.Needs.{needs}
-use Prim.Native.Nat.{_-_, _<_, _≤_}
-use mathlib.Core.Path.{_∙_, _≡_, refl, sym}
+use Prim.Native.Nat.{_-_, _≤_}
+use mathlib.Core.Path.{sym}
 use lib.ListN.{length}
 use lib.Seq.{length-take-le}
 use native.Mathlib.Omega.{arith}
 use Rattle.answer.proofs.Held.{Held}
 use Rattle.answer.proofs.take_lines.Statement.{statement}
 use Rattle.answer.proofs.take_lines.Tie as tie
-use Rattle.answer.proofs.take_lines.Reads as reads
-use Rattle.answer.proofs.take_lines.Lts as lts
-use Rattle.answer.proofs.gather.Reads as gather-reads
-use Rattle.answer.proofs.reply.Reads as reply-reads
 
 abbrev Inv-loop : tie.InvT-loop
 Inv-loop chunk line₀ name₀ text₀ numbers₀ out₀ spans₀ piece₀ size₀ at₀ from₀ line name text numbers out spans piece size at from =

@@ -4,7 +4,7 @@ use Prim.Native.Nat.{_-_, _≤_}
 use lib.ListN.{drop, length, length-append, length-replicate}
 use mathlib.Core.Path.{_≡_, refl}
 use Rattle.quoting.specs.Emitted.{emitted, isMark}
-use Rattle.quoting.proofs.Placing.{Left, less-left, none-left}
+use Rattle.laws.specs.Placed.{Left, less-left, none-left}
 use native.Mathlib.Omega.{arith}
 use Rattle.laws.specs.Store.{part-is}
 use Rattle.quoting.proofs.Running.{Ran, ran, run-length}

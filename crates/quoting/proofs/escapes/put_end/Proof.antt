@@ -1,7 +1,7 @@
 -- `quoting::escapes::put_end` meets its contract. Assumes nothing.
 use borrow.Author.Needs.{needs}
 use native.Mathlib.Omega.{arith}
-use Rattle.quoting.proofs.Placing.{run-placed}
+use Rattle.laws.specs.Placed.{run-placed}
 use mathlib.Core.Path.{refl, sym}
 use native.Mathlib.Nat.{add-zero}
 use Rattle.quoting.proofs.escapes.put_end.Statement.{statement}

@@ -3,7 +3,7 @@ use borrow.Author.Needs.{needs}
 use native.Mathlib.Omega.{arith}
 use lib.ListN.{length-append}
 use Rattle.quoting.specs.Emitted.{formed}
-use Rattle.quoting.proofs.Placing.{appended, both-placed, unit-placed}
+use Rattle.laws.specs.Placed.{appended, both-placed, unit-placed}
 use Rattle.quoting.proofs.escapes.put_form.Statement.{statement}
 use Rattle.quoting.proofs.escapes.put_form.Tie as tie
 

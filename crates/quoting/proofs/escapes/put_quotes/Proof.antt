@@ -1,6 +1,6 @@
 -- `quoting::escapes::put_quotes` meets its contract. Assumes nothing.
 use borrow.Author.Needs.{needs}
-use Rattle.quoting.proofs.Placing.{both-placed, run-placed}
+use Rattle.laws.specs.Placed.{both-placed, run-placed}
 use Rattle.quoting.proofs.escapes.put_quotes.Statement.{statement}
 use Rattle.quoting.proofs.escapes.put_quotes.Tie as tie
 

@@ -3,7 +3,7 @@ use borrow.Author.Needs.{needs}
 use native.Mathlib.Omega.{arith}
 use mathlib.Core.List.{append-nil}
 use Rattle.showing.specs.Piece.{front}
-use Rattle.showing.proofs.Putting.{put-then}
+use Rattle.laws.specs.Placed.{both-placed}
 use Rattle.showing.proofs.Stepping.{some-head}
 use Rattle.showing.specs.Show.{headBytes}
 use Rattle.showing.proofs.pieces.put_front.Statement.{statement}
@@ -15,7 +15,7 @@ put-head-requires c κs = search needs
 open-text-requires : tie.Need-open-text-requires
 open-text-requires c κs =
     let entry = c .before .before .before .before .before .before .before in
-    omega (arith, c .before .before .before .before .put-head .ensures .counts, some-head (entry .args .head))
+    omega (arith, c .before .before .before .before .put-head .ensures .ends, some-head (entry .args .head))
 
 same-length : tie.Need-same-length
 same-length c = search needs
@@ -24,7 +24,7 @@ returns : tie.Need-returns
 unfolding front
 returns c =
     let at-put-head = c .before .before .before .before .before .before .before in
-    rw (c .before .before .before .before .if1 .taken) (put-then (at-put-head .put-head .ensures) (c .before .before .open-text .ensures))
+    rw (c .before .before .before .before .if1 .taken) (both-placed (at-put-head .put-head .ensures) (c .before .before .open-text .ensures))
 
 same-length-2 : tie.Need-same-length-2
 same-length-2 c = search needs

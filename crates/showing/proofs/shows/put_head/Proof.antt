@@ -2,36 +2,36 @@
 use borrow.Author.Needs.{needs}
 use Rattle.rules.specs.Unit.{units}
 use Rattle.showing.specs.Show.{headBytes}
-use Rattle.showing.proofs.Putting.{put-then}
+use Rattle.laws.specs.Placed.{both-placed}
 use Rattle.showing.proofs.shows.put_head.Statement.{statement}
 use Rattle.showing.proofs.shows.put_head.Tie as tie
 
 enum-told : tie.Need-enum-told
 enum-told c = search needs
 
-slice-aggregate-put-bytes : tie.Need-slice-aggregate-put-bytes
-slice-aggregate-put-bytes c = search needs
+slice-aggregate-put-run : tie.Need-slice-aggregate-put-run
+slice-aggregate-put-run c = search needs
 
-put-bytes-requires : tie.Need-put-bytes-requires
-put-bytes-requires c κs = search needs
+put-run-requires : tie.Need-put-run-requires
+put-run-requires c κs = search needs
 
 enum-told-2 : tie.Need-enum-told-2
 enum-told-2 c = search needs
 
-slice-aggregate-put-bytes-2 : tie.Need-slice-aggregate-put-bytes-2
-slice-aggregate-put-bytes-2 c = search needs
+slice-aggregate-put-run-2 : tie.Need-slice-aggregate-put-run-2
+slice-aggregate-put-run-2 c = search needs
 
-put-bytes-requires-2 : tie.Need-put-bytes-requires-2
-put-bytes-requires-2 c κs = search needs
+put-run-requires-2 : tie.Need-put-run-requires-2
+put-run-requires-2 c κs = search needs
 
 enum-known-head : tie.Need-enum-known-head
 enum-known-head c = search needs
 
-slice-aggregate-put-bytes-3 : tie.Need-slice-aggregate-put-bytes-3
-slice-aggregate-put-bytes-3 c = search needs
+slice-aggregate-put-run-3 : tie.Need-slice-aggregate-put-run-3
+slice-aggregate-put-run-3 c = search needs
 
-put-bytes-requires-3 : tie.Need-put-bytes-requires-3
-put-bytes-requires-3 c κs = search needs
+put-run-requires-3 : tie.Need-put-run-requires-3
+put-run-requires-3 c κs = search needs
 
 put-number-requires : tie.Need-put-number-requires
 put-number-requires c κs = search needs
@@ -61,7 +61,7 @@ returns : tie.Need-returns
 unfolding headBytes units
 returns c =
     let at-enum-told = c .before .before .before .before .before in
-    rw (at-enum-told .enum-told .given .1) (c .before .before .put-bytes .ensures)
+    rw (at-enum-told .enum-told .given .1) (c .before .before .put-run .ensures)
 
 same-length-2 : tie.Need-same-length-2
 same-length-2 c = search needs
@@ -70,7 +70,7 @@ returns-2 : tie.Need-returns-2
 unfolding headBytes units
 returns-2 c =
     let at-enum-told2 = c .before .before .before .before .before in
-    rw (at-enum-told2 .enum-told2 .given .1) (c .before .before .put-bytes2 .ensures)
+    rw (at-enum-told2 .enum-told2 .given .1) (c .before .before .put-run2 .ensures)
 
 same-length-3 : tie.Need-same-length-3
 same-length-3 c = search needs
@@ -78,9 +78,9 @@ same-length-3 c = search needs
 returns-3 : tie.Need-returns-3
 unfolding headBytes units
 returns-3 c =
-    let at-put-bytes3 = c .before .before .before .before .before .before in
-    let at-head = at-put-bytes3 .before .before .before .before in
-    rw (at-head .head .given .1) (put-then (at-put-bytes3 .put-bytes3 .ensures) (c .before .before .put-number .ensures))
+    let at-put-run3 = c .before .before .before .before .before .before in
+    let at-head = at-put-run3 .before .before .before .before in
+    rw (at-head .head .given .1) (both-placed (at-put-run3 .put-run3 .ensures) (c .before .before .put-number .ensures))
 
 same-length-4 : tie.Need-same-length-4
 same-length-4 c = search needs
@@ -105,14 +105,14 @@ put-head-spec =
     tie.close
     (tie.spec
     enum-told
-    slice-aggregate-put-bytes
-    put-bytes-requires
+    slice-aggregate-put-run
+    put-run-requires
     enum-told-2
-    slice-aggregate-put-bytes-2
-    put-bytes-requires-2
+    slice-aggregate-put-run-2
+    put-run-requires-2
     enum-known-head
-    slice-aggregate-put-bytes-3
-    put-bytes-requires-3
+    slice-aggregate-put-run-3
+    put-run-requires-3
     put-number-requires
     enum-known-head-2
     slice-aggregate-put-two

@@ -2,15 +2,15 @@
 use borrow.Author.Needs.{needs}
 use native.Mathlib.Omega.{arith}
 use Rattle.showing.specs.Show.{decimal, signedNumber}
-use Rattle.showing.proofs.Putting.{put-then}
+use Rattle.laws.specs.Placed.{both-placed}
 use Rattle.showing.proofs.shows.put_signed.Statement.{statement}
 use Rattle.showing.proofs.shows.put_signed.Tie as tie
 
-slice-aggregate-put-bytes : tie.Need-slice-aggregate-put-bytes
-slice-aggregate-put-bytes c = search needs
+slice-aggregate-put-run : tie.Need-slice-aggregate-put-run
+slice-aggregate-put-run c = search needs
 
-put-bytes-requires : tie.Need-put-bytes-requires
-put-bytes-requires c κs = search needs
+put-run-requires : tie.Need-put-run-requires
+put-run-requires c κs = search needs
 
 put-digits-requires : tie.Need-put-digits-requires
 put-digits-requires c κs = search needs
@@ -21,9 +21,9 @@ same-length c = search needs
 returns : tie.Need-returns
 unfolding signedNumber decimal
 returns c =
-    let at-put-bytes = c .before .before .before .before .before .before in
-    let at-if1 = at-put-bytes .before .before .before in
-    rw (at-if1 .if1 .taken) (put-then (at-put-bytes .put-bytes .ensures) (c .before .before .put-digits .ensures 19 (omega arith)))
+    let at-put-run = c .before .before .before .before .before .before in
+    let at-if1 = at-put-run .before .before .before in
+    rw (at-if1 .if1 .taken) (both-placed (at-put-run .put-run .ensures) (c .before .before .put-digits .ensures 19 (omega arith)))
 
 put-number-requires : tie.Need-put-number-requires
 put-number-requires c κs = search needs
@@ -39,8 +39,8 @@ pub put-signed-spec : {M : Type 1} → statement M
 put-signed-spec =
     tie.close
     (tie.spec
-    slice-aggregate-put-bytes
-    put-bytes-requires
+    slice-aggregate-put-run
+    put-run-requires
     put-digits-requires
     same-length
     returns

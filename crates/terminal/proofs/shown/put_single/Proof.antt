@@ -7,8 +7,8 @@ use Rattle.terminal.proofs.shown.put_single.Tie as tie
 in-ranges-requires : tie.Need-in-ranges-requires
 in-ranges-requires c κs = search needs
 
-put-escape-requires : tie.Need-put-escape-requires
-put-escape-requires c κs = search needs
+put-braced-requires : tie.Need-put-braced-requires
+put-braced-requires c κs = search needs
 
 same-length : tie.Need-same-length
 same-length c = search needs
@@ -16,7 +16,7 @@ same-length c = search needs
 returns : tie.Need-returns
 returns c =
     let tested = c .before .before .before .before in
-    rw (escaped _ (tested .before .before .before .before .pre .1) (tested .before .in-ranges .ensures) (tested .if1 .taken)) (c .before .before .put-escape .ensures)
+    rw (escaped _ (tested .before .before .before .before .pre .1) (tested .before .in-ranges .ensures) (tested .if1 .taken)) (c .before .before .put-braced .ensures)
 
 put-utf8-requires : tie.Need-put-utf8-requires
 put-utf8-requires c κs = search needs
@@ -34,7 +34,7 @@ put-single-spec =
     tie.close
     (tie.spec
     in-ranges-requires
-    put-escape-requires
+    put-braced-requires
     same-length
     returns
     put-utf8-requires

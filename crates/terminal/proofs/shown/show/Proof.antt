@@ -5,7 +5,7 @@ use native.Mathlib.Omega.{arith}
 use lib.ListN.{length}
 use mathlib.Core.Path.{refl}
 use Rattle.terminal.specs.Shown.{hidden}
-use Rattle.terminal.proofs.Placing.{same-left}
+use Rattle.laws.specs.Placed.{same-left}
 use Rattle.terminal.proofs.Showing.{Paired, Showing, all-shown, alone, few-bytes, few-single, no-room, none-shown, paired, piece-shown}
 use Rattle.terminal.proofs.shown.show.Statement.{statement}
 use Rattle.terminal.proofs.shown.show.Tie as tie

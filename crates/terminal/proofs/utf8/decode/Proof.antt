@@ -4,7 +4,7 @@ use Prim.Native.Nat.{_-_, _+_}
 use lib.ListN.{length}
 use native.Mathlib.Omega.{arith}
 use Rattle.terminal.proofs.Decoding.{Reading, all-read, none-read, one-read, stopped}
-use Rattle.terminal.proofs.Placing.{same-left}
+use Rattle.laws.specs.Placed.{same-left}
 use Rattle.terminal.proofs.Sequence.{scalar-small}
 use Rattle.terminal.proofs.utf8.decode.Statement.{statement}
 use Rattle.terminal.proofs.utf8.decode.Tie as tie

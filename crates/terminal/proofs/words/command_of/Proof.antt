@@ -6,46 +6,46 @@ use mathlib.Core.Path.{_∙_, sym}
 use Rattle.terminal.proofs.words.command_of.Statement.{statement}
 use Rattle.terminal.proofs.words.command_of.Tie as tie
 
-slice-aggregate-same-bytes : tie.Need-slice-aggregate-same-bytes
-slice-aggregate-same-bytes c = search needs
+slice-aggregate-same : tie.Need-slice-aggregate-same
+slice-aggregate-same c = search needs
 
-same-bytes-requires : tie.Need-same-bytes-requires
-same-bytes-requires c κs = search needs
+same-requires : tie.Need-same-requires
+same-requires c κs = search needs
 
 returns : tie.Need-returns
 unfolding commandOf units
-returns c = rw (sym (c .before .same-bytes .ensures) ∙ c .if1 .taken)
+returns c = rw (sym (c .before .same .ensures) ∙ c .if1 .taken)
 
-slice-aggregate-same-bytes-2 : tie.Need-slice-aggregate-same-bytes-2
-slice-aggregate-same-bytes-2 c = search needs
+slice-aggregate-same-2 : tie.Need-slice-aggregate-same-2
+slice-aggregate-same-2 c = search needs
 
-same-bytes-requires-2 : tie.Need-same-bytes-requires-2
-same-bytes-requires-2 c κs = search needs
+same-requires-2 : tie.Need-same-requires-2
+same-requires-2 c κs = search needs
 
 returns-2 : tie.Need-returns-2
 unfolding commandOf units
 returns-2 c =
     let t1 = c .before .before .before in
-    rw (sym (t1 .before .same-bytes .ensures) ∙ t1 .if1 .left, sym (c .before .same-bytes2 .ensures) ∙ c .if2 .taken)
+    rw (sym (t1 .before .same .ensures) ∙ t1 .if1 .left, sym (c .before .same2 .ensures) ∙ c .if2 .taken)
 
-slice-aggregate-same-bytes-3 : tie.Need-slice-aggregate-same-bytes-3
-slice-aggregate-same-bytes-3 c = search needs
+slice-aggregate-same-3 : tie.Need-slice-aggregate-same-3
+slice-aggregate-same-3 c = search needs
 
-same-bytes-requires-3 : tie.Need-same-bytes-requires-3
-same-bytes-requires-3 c κs = search needs
+same-requires-3 : tie.Need-same-requires-3
+same-requires-3 c κs = search needs
 
 returns-3 : tie.Need-returns-3
 unfolding commandOf units
 returns-3 c =
     let t2 = c .before .before .before in
     let t1 = t2 .before .before .before in
-    rw (sym (t1 .before .same-bytes .ensures) ∙ t1 .if1 .left, sym (t2 .before .same-bytes2 .ensures) ∙ t2 .if2 .left, sym (c .before .same-bytes3 .ensures) ∙ c .if3 .taken)
+    rw (sym (t1 .before .same .ensures) ∙ t1 .if1 .left, sym (t2 .before .same2 .ensures) ∙ t2 .if2 .left, sym (c .before .same3 .ensures) ∙ c .if3 .taken)
 
-slice-aggregate-same-bytes-4 : tie.Need-slice-aggregate-same-bytes-4
-slice-aggregate-same-bytes-4 c = search needs
+slice-aggregate-same-4 : tie.Need-slice-aggregate-same-4
+slice-aggregate-same-4 c = search needs
 
-same-bytes-requires-4 : tie.Need-same-bytes-requires-4
-same-bytes-requires-4 c κs = search needs
+same-requires-4 : tie.Need-same-requires-4
+same-requires-4 c κs = search needs
 
 returns-4 : tie.Need-returns-4
 unfolding commandOf units
@@ -53,13 +53,13 @@ returns-4 c =
     let t3 = c .before .before .before in
     let t2 = t3 .before .before .before in
     let t1 = t2 .before .before .before in
-    rw (sym (t1 .before .same-bytes .ensures) ∙ t1 .if1 .left, sym (t2 .before .same-bytes2 .ensures) ∙ t2 .if2 .left, sym (t3 .before .same-bytes3 .ensures) ∙ t3 .if3 .left, sym (c .before .same-bytes4 .ensures) ∙ c .if4 .taken)
+    rw (sym (t1 .before .same .ensures) ∙ t1 .if1 .left, sym (t2 .before .same2 .ensures) ∙ t2 .if2 .left, sym (t3 .before .same3 .ensures) ∙ t3 .if3 .left, sym (c .before .same4 .ensures) ∙ c .if4 .taken)
 
-slice-aggregate-same-bytes-5 : tie.Need-slice-aggregate-same-bytes-5
-slice-aggregate-same-bytes-5 c = search needs
+slice-aggregate-same-5 : tie.Need-slice-aggregate-same-5
+slice-aggregate-same-5 c = search needs
 
-same-bytes-requires-5 : tie.Need-same-bytes-requires-5
-same-bytes-requires-5 c κs = search needs
+same-requires-5 : tie.Need-same-requires-5
+same-requires-5 c κs = search needs
 
 returns-5 : tie.Need-returns-5
 unfolding commandOf units
@@ -68,13 +68,13 @@ returns-5 c =
     let t3 = t4 .before .before .before in
     let t2 = t3 .before .before .before in
     let t1 = t2 .before .before .before in
-    rw (sym (t1 .before .same-bytes .ensures) ∙ t1 .if1 .left, sym (t2 .before .same-bytes2 .ensures) ∙ t2 .if2 .left, sym (t3 .before .same-bytes3 .ensures) ∙ t3 .if3 .left, sym (t4 .before .same-bytes4 .ensures) ∙ t4 .if4 .left, sym (c .before .same-bytes5 .ensures) ∙ c .if5 .taken)
+    rw (sym (t1 .before .same .ensures) ∙ t1 .if1 .left, sym (t2 .before .same2 .ensures) ∙ t2 .if2 .left, sym (t3 .before .same3 .ensures) ∙ t3 .if3 .left, sym (t4 .before .same4 .ensures) ∙ t4 .if4 .left, sym (c .before .same5 .ensures) ∙ c .if5 .taken)
 
-slice-aggregate-same-bytes-6 : tie.Need-slice-aggregate-same-bytes-6
-slice-aggregate-same-bytes-6 c = search needs
+slice-aggregate-same-6 : tie.Need-slice-aggregate-same-6
+slice-aggregate-same-6 c = search needs
 
-same-bytes-requires-6 : tie.Need-same-bytes-requires-6
-same-bytes-requires-6 c κs = search needs
+same-requires-6 : tie.Need-same-requires-6
+same-requires-6 c κs = search needs
 
 returns-6 : tie.Need-returns-6
 unfolding commandOf units
@@ -84,13 +84,13 @@ returns-6 c =
     let t3 = t4 .before .before .before in
     let t2 = t3 .before .before .before in
     let t1 = t2 .before .before .before in
-    rw (sym (t1 .before .same-bytes .ensures) ∙ t1 .if1 .left, sym (t2 .before .same-bytes2 .ensures) ∙ t2 .if2 .left, sym (t3 .before .same-bytes3 .ensures) ∙ t3 .if3 .left, sym (t4 .before .same-bytes4 .ensures) ∙ t4 .if4 .left, sym (t5 .before .same-bytes5 .ensures) ∙ t5 .if5 .left, sym (c .before .same-bytes6 .ensures) ∙ c .if6 .taken)
+    rw (sym (t1 .before .same .ensures) ∙ t1 .if1 .left, sym (t2 .before .same2 .ensures) ∙ t2 .if2 .left, sym (t3 .before .same3 .ensures) ∙ t3 .if3 .left, sym (t4 .before .same4 .ensures) ∙ t4 .if4 .left, sym (t5 .before .same5 .ensures) ∙ t5 .if5 .left, sym (c .before .same6 .ensures) ∙ c .if6 .taken)
 
-slice-aggregate-same-bytes-7 : tie.Need-slice-aggregate-same-bytes-7
-slice-aggregate-same-bytes-7 c = search needs
+slice-aggregate-same-7 : tie.Need-slice-aggregate-same-7
+slice-aggregate-same-7 c = search needs
 
-same-bytes-requires-7 : tie.Need-same-bytes-requires-7
-same-bytes-requires-7 c κs = search needs
+same-requires-7 : tie.Need-same-requires-7
+same-requires-7 c κs = search needs
 
 returns-7 : tie.Need-returns-7
 unfolding commandOf units
@@ -101,7 +101,7 @@ returns-7 c =
     let t3 = t4 .before .before .before in
     let t2 = t3 .before .before .before in
     let t1 = t2 .before .before .before in
-    rw (sym (t1 .before .same-bytes .ensures) ∙ t1 .if1 .left, sym (t2 .before .same-bytes2 .ensures) ∙ t2 .if2 .left, sym (t3 .before .same-bytes3 .ensures) ∙ t3 .if3 .left, sym (t4 .before .same-bytes4 .ensures) ∙ t4 .if4 .left, sym (t5 .before .same-bytes5 .ensures) ∙ t5 .if5 .left, sym (t6 .before .same-bytes6 .ensures) ∙ t6 .if6 .left, sym (c .before .same-bytes7 .ensures) ∙ c .if7 .taken)
+    rw (sym (t1 .before .same .ensures) ∙ t1 .if1 .left, sym (t2 .before .same2 .ensures) ∙ t2 .if2 .left, sym (t3 .before .same3 .ensures) ∙ t3 .if3 .left, sym (t4 .before .same4 .ensures) ∙ t4 .if4 .left, sym (t5 .before .same5 .ensures) ∙ t5 .if5 .left, sym (t6 .before .same6 .ensures) ∙ t6 .if6 .left, sym (c .before .same7 .ensures) ∙ c .if7 .taken)
 
 returns-8 : tie.Need-returns-8
 unfolding commandOf units
@@ -112,31 +112,31 @@ returns-8 c =
     let t3 = t4 .before .before .before in
     let t2 = t3 .before .before .before in
     let t1 = t2 .before .before .before in
-    rw (sym (t1 .before .same-bytes .ensures) ∙ t1 .if1 .left, sym (t2 .before .same-bytes2 .ensures) ∙ t2 .if2 .left, sym (t3 .before .same-bytes3 .ensures) ∙ t3 .if3 .left, sym (t4 .before .same-bytes4 .ensures) ∙ t4 .if4 .left, sym (t5 .before .same-bytes5 .ensures) ∙ t5 .if5 .left, sym (t6 .before .same-bytes6 .ensures) ∙ t6 .if6 .left, sym (c .before .same-bytes7 .ensures) ∙ c .if7 .left)
+    rw (sym (t1 .before .same .ensures) ∙ t1 .if1 .left, sym (t2 .before .same2 .ensures) ∙ t2 .if2 .left, sym (t3 .before .same3 .ensures) ∙ t3 .if3 .left, sym (t4 .before .same4 .ensures) ∙ t4 .if4 .left, sym (t5 .before .same5 .ensures) ∙ t5 .if5 .left, sym (t6 .before .same6 .ensures) ∙ t6 .if6 .left, sym (c .before .same7 .ensures) ∙ c .if7 .left)
 
 pub command-of-spec : {M : Type 1} → statement M
 command-of-spec =
     tie.close
     (tie.spec
-    slice-aggregate-same-bytes
-    same-bytes-requires
+    slice-aggregate-same
+    same-requires
     returns
-    slice-aggregate-same-bytes-2
-    same-bytes-requires-2
+    slice-aggregate-same-2
+    same-requires-2
     returns-2
-    slice-aggregate-same-bytes-3
-    same-bytes-requires-3
+    slice-aggregate-same-3
+    same-requires-3
     returns-3
-    slice-aggregate-same-bytes-4
-    same-bytes-requires-4
+    slice-aggregate-same-4
+    same-requires-4
     returns-4
-    slice-aggregate-same-bytes-5
-    same-bytes-requires-5
+    slice-aggregate-same-5
+    same-requires-5
     returns-5
-    slice-aggregate-same-bytes-6
-    same-bytes-requires-6
+    slice-aggregate-same-6
+    same-requires-6
     returns-6
-    slice-aggregate-same-bytes-7
-    same-bytes-requires-7
+    slice-aggregate-same-7
+    same-requires-7
     returns-7
     returns-8)

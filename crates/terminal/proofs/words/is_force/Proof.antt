@@ -5,15 +5,15 @@ use Rattle.rules.specs.Unit.{units}
 use Rattle.terminal.proofs.words.is_force.Statement.{statement}
 use Rattle.terminal.proofs.words.is_force.Tie as tie
 
-slice-aggregate-same-bytes : tie.Need-slice-aggregate-same-bytes
-slice-aggregate-same-bytes c = search needs
+slice-aggregate-same : tie.Need-slice-aggregate-same
+slice-aggregate-same c = search needs
 
-same-bytes-requires : tie.Need-same-bytes-requires
-same-bytes-requires c κs = search needs
+same-requires : tie.Need-same-requires
+same-requires c κs = search needs
 
 returns : tie.Need-returns
 unfolding isForce units
-returns c = c .same-bytes .ensures
+returns c = c .same .ensures
 
 pub is-force-spec : {M : Type 1} → statement M
-is-force-spec = tie.close (tie.spec slice-aggregate-same-bytes same-bytes-requires returns)
+is-force-spec = tie.close (tie.spec slice-aggregate-same same-requires returns)

@@ -3,7 +3,7 @@ use borrow.Author.Needs.{needs}
 use Prim.Native.Nat.{_-_}
 use lib.ListN.{length}
 use mathlib.Core.Path.{sym}
-use Rattle.terminal.proofs.Wording.{Comparing, all-same, none-compared, one-differs, one-same, unequal}
+use Rattle.laws.specs.Equal.{Comparing, all-same, none-compared, one-differs, one-same, unequal}
 use Rattle.terminal.proofs.words.same_units.Statement.{statement}
 use Rattle.terminal.proofs.words.same_units.Tie as tie
 
