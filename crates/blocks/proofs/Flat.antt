@@ -1,11 +1,11 @@
 -- What is left of a flat list of entry records, from a place on. Assumes nothing.
-use Prim.Native.Nat.{ℕ, suc, _+_, _≤_, _<_}
+use Prim.Native.Nat.{ℕ, _+_, _≤_, _<_}
 use native.Mathlib.Omega.{arith}
 use mathlib.Core.Path.{_≡_, refl}
 use mathlib.Core.List.{List, [], _∷_}
 use lib.ListN.{length, drop, length-drop, drop-of-length-le}
-use lib.Seq.{drop-cons}
 use Rattle.rules.specs.Record.{whole, cut, wholes, EntryRecord, entryRecords, entryOf, entriesOf}
+use Rattle.laws.specs.Records.{next-numbers}
 use Rattle.blocks.specs.Entries.{numbered}
 
 module _ (records : List ℕ) (at : ℕ) where
@@ -14,21 +14,9 @@ module _ (records : List ℕ) (at : ℕ) where
       → entryRecords (drop at records) ≡ whole r ∷ entryRecords (drop (at + 4) records)
   unfolding entryRecords
   next-record e h =
-      let e₁ : at + 1 ≡ suc at = omega arith in
-      let e₂ : at + 2 ≡ suc (suc at) = omega arith in
-      let e₃ : at + 3 ≡ suc (suc (suc at)) = omega arith in
-      let e₄ : at + 4 ≡ suc (suc (suc (suc at))) = omega arith in
-      rw (
-        e,
-        e₁,
-        e₂,
-        e₃,
-        e₄,
-        drop-cons records at 0 (omega arith),
-        drop-cons records (suc at) 0 (omega arith),
-        drop-cons records (suc (suc at)) 0 (omega arith),
-        drop-cons records (suc (suc (suc at))) 0 (omega arith),
-      )
+      let second : at + 1 + 1 ≡ at + 2 = omega arith in
+      let third : at + 2 + 1 ≡ at + 3 = omega arith in
+      rw (e, next-numbers records at 4 h, second, third)
 
   -- the end of the list
   pub no-record : length records ≤ at → entryRecords (drop at records) ≡ []
