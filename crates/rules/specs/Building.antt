@@ -1,6 +1,6 @@
 -- Ordinary lines and batch lines from a list of argument records. Assumes nothing.
 use Prim.Native.Nat.{ℕ}
-use mathlib.Core.Bool.{Bool, true, false}
+use mathlib.Core.Bool.{Bool}
 use mathlib.Core.List.{List, [], _∷_, _++_}
 use Rattle.rules.specs.Choice.{pick, either, both, any}
 use Rattle.rules.specs.Unit.{units, isNul, isLineBreak, isQuote, quote, space}

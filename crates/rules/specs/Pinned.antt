@@ -1,11 +1,11 @@
 -- Small examples that pin what the marked ones leave open: each limit's number, each order of refusals, places, the lent memory afterwards. Assumes nothing.
-use Prim.Native.Nat.{ℕ, _+_, _/_}
+use Prim.Native.Nat.{ℕ}
 use Prim.Native.String.{String}
 use mathlib.Core.Path.{_≡_, refl}
-use mathlib.Core.Bool.{Bool, true, false}
+use mathlib.Core.Bool.{true, false}
 use mathlib.Core.List.{List, [], _∷_, _++_, map}
 use lib.ListN.{length, replicate}
-use lib.IntN.{ℤ, pos, negℤ}
+use lib.IntN.{pos, negℤ}
 use Rattle.rules.specs.Unit.{units, classOf}
 use Rattle.rules.specs.Outcome.{Outcome, done, refused, filled}
 use Rattle.rules.specs.Record.{argumentRecords, flatOf, wholes}

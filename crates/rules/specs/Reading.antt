@@ -8,7 +8,7 @@ use Rattle.rules.specs.Choice.{pick, both, flip, isEmpty}
 use Rattle.rules.specs.Unit.{isNul, isQuote, isBackslash, isBlank, quote}
 use Rattle.rules.specs.Record.{part, exceeds}
 use Rattle.rules.specs.Quoting.{slashes}
-use Rattle.rules.specs.Outcome.{Outcome, done, refused, refuse}
+use Rattle.rules.specs.Outcome.{Outcome, done, refuse}
 
 -- the most units of a line that is read: "a line to be read has more than 32,767 units"
 unfoldable pub readLimit : ℕ

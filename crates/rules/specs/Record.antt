@@ -1,7 +1,7 @@
 -- Flat lists of records that name parts of a lent text. Assumes nothing.
 use Prim.Native.Nat.{ℕ, _+_}
-use mathlib.Core.Bool.{Bool, true, false}
-use mathlib.Core.List.{List, [], _∷_, _++_, map}
+use mathlib.Core.Bool.{Bool}
+use mathlib.Core.List.{List, [], _∷_, map}
 use lib.Dec.{ltb, eqb}
 use lib.ListN.{length, take, drop}
 use Rattle.rules.specs.declared.Arg.{Arg}
