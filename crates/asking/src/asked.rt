@@ -44,14 +44,10 @@ pub fn read(
     requires { ⌜ (length (now question) ≤ length (now name)) × (length (now question) ≤ length (now text)) ⌝ }
     ensures { λ r. ⌜ ((numbers : List ℕ) → Says (readAnswer (length (now (out .entry))) (length (now (spans .entry))) (wordsAt (now (question .entry)) at)) r (now (out .exit)) (now (spans .exit)) numbers) ⌝ }
 {
-    let Next::Text { units: exe, next } = next_text(question, at, name) else {
+    let Next::Text(exe, next) = next_text(question, at, name) else {
         return headed(Head::Bad);
     };
-    let Next::Text {
-        units: line,
-        next: end,
-    } = next_text(question, next, text)
-    else {
+    let Next::Text(line, end) = next_text(question, next, text) else {
         return headed(Head::Bad);
     };
     if end <= question.len() {
@@ -90,25 +86,13 @@ pub fn line(
     requires { ⌜ (length (now question) ≤ length (now name)) × Roomy (length (now question)) at (length (now text)) (length (now numbers)) ⌝ }
     ensures { λ r. ⌜ ((spans : List ℕ) → Says (lineAnswer (builder batch) (length (now (out .entry))) (wordsAt (now (question .entry)) at)) r (now (out .exit)) spans (now (numbers .exit))) ⌝ }
 {
-    let Count::Is {
-        number: force,
-        next,
-    } = next_number(question, at, 1)
-    else {
+    let Count::Is(force, next) = next_number(question, at, 1) else {
         return headed(Head::Bad);
     };
-    let Next::Text {
-        units: program,
-        next: end,
-    } = next_text(question, next, name)
-    else {
+    let Next::Text(program, end) = next_text(question, next, name) else {
         return headed(Head::Bad);
     };
-    let Listing::Is {
-        units,
-        numbers: count,
-    } = take_arguments(question, end, text, numbers)
-    else {
+    let Listing::Is(units, count) = take_arguments(question, end, text, numbers) else {
         return headed(Head::Bad);
     };
     built(make(
@@ -132,11 +116,7 @@ pub fn env(
     requires { ⌜ Roomy (length (now question)) at (length (now text)) (length (now numbers)) ⌝ }
     ensures { λ r. ⌜ ((spans : List ℕ) → Says (envAnswer (length (now (out .entry))) (wordsAt (now (question .entry)) at)) r (now (out .exit)) spans (now (numbers .exit))) ⌝ }
 {
-    let Listing::Is {
-        units,
-        numbers: count,
-    } = take_entries(question, at, text, numbers)
-    else {
+    let Listing::Is(units, count) = take_entries(question, at, text, numbers) else {
         return headed(Head::Bad);
     };
     built(make_envp(&numbers[..count], &text[..units], out))
@@ -147,7 +127,7 @@ pub fn suffix(question: &[u8], at: usize, name: &mut [u16]) -> Answer
     requires { ⌜ length (now question) ≤ length (now name) ⌝ }
     ensures { λ r. ⌜ ((out spans numbers : List ℕ) → Says (suffixAnswer (wordsAt (now (question .entry)) at)) r out spans numbers) ⌝ }
 {
-    let Next::Text { units: path, next } = next_text(question, at, name) else {
+    let Next::Text(path, next) = next_text(question, at, name) else {
         return headed(Head::Bad);
     };
     if next <= question.len() {
@@ -164,7 +144,7 @@ pub fn status(question: &[u8], at: usize, numbers: &mut [u32], out: &mut [u16]) 
     requires { ⌜ 0 < length (now numbers) ⌝ }
     ensures { λ r. ⌜ ((spans : List ℕ) → Says (statusAnswer (length (now (out .entry))) (wordsAt (now (question .entry)) at)) r (now (out .exit)) spans (now (numbers .exit))) ⌝ }
 {
-    let Count::Is { number, next } = next_number(question, at, 4294967295) else {
+    let Count::Is(number, next) = next_number(question, at, 4294967295) else {
         return headed(Head::Bad);
     };
     if next <= question.len() {

@@ -37,35 +37,19 @@ pub fn line(
     requires { ⌜ Lent (length (now question)) at (length (now name)) (length (now text)) (length (now numbers)) (length (now out)) ⌝ }
     ensures { λ r. ⌜ ((spans : List ℕ) → Says (lentLineAnswer (builder batch) (wordsAt (now (question .entry)) at)) r (now (out .exit)) spans (now (numbers .exit))) ⌝ }
 {
-    let Count::Is {
-        number: force,
-        next,
-    } = next_number(question, at, 1)
-    else {
+    let Count::Is(force, next) = next_number(question, at, 1) else {
         return headed(Head::Bad);
     };
-    let Next::Text {
-        units: program,
-        next: second,
-    } = next_text(question, next, name)
-    else {
+    let Next::Text(program, second) = next_text(question, next, name) else {
         return headed(Head::Bad);
     };
-    let Next::Text { units, next: third } = next_text(question, second, text) else {
+    let Next::Text(units, third) = next_text(question, second, text) else {
         return headed(Head::Bad);
     };
-    let Next::Text {
-        units: places,
-        next: end,
-    } = next_text(question, third, out)
-    else {
+    let Next::Text(places, end) = next_text(question, third, out) else {
         return headed(Head::Bad);
     };
-    let Listing::Is {
-        units: _,
-        numbers: count,
-    } = take_numbers(question, end, numbers)
-    else {
+    let Listing::Is(_, count) = take_numbers(question, end, numbers) else {
         return headed(Head::Bad);
     };
     let b = make(
@@ -90,21 +74,13 @@ pub fn env(
     requires { ⌜ Lent (length (now question)) at (length (now question)) (length (now text)) (length (now numbers)) (length (now out)) ⌝ }
     ensures { λ r. ⌜ ((spans : List ℕ) → Says (lentEnvAnswer (wordsAt (now (question .entry)) at)) r (now (out .exit)) spans (now (numbers .exit))) ⌝ }
 {
-    let Next::Text { units, next } = next_text(question, at, text) else {
+    let Next::Text(units, next) = next_text(question, at, text) else {
         return headed(Head::Bad);
     };
-    let Next::Text {
-        units: places,
-        next: end,
-    } = next_text(question, next, out)
-    else {
+    let Next::Text(places, end) = next_text(question, next, out) else {
         return headed(Head::Bad);
     };
-    let Listing::Is {
-        units: _,
-        numbers: count,
-    } = take_numbers(question, end, numbers)
-    else {
+    let Listing::Is(_, count) = take_numbers(question, end, numbers) else {
         return headed(Head::Bad);
     };
     let b = make_envp(&numbers[..count], &text[..units], &mut out[..places]);
@@ -116,14 +92,10 @@ pub fn status(question: &[u8], at: usize, out: &mut [u16]) -> Answer
     requires { ⌜ length (now question) ≤ length (now out) ⌝ }
     ensures { λ r. ⌜ ((spans numbers : List ℕ) → Says (lentStatusAnswer (wordsAt (now (question .entry)) at)) r (now (out .exit)) spans numbers) ⌝ }
 {
-    let Count::Is { number, next } = next_number(question, at, 4294967295) else {
+    let Count::Is(number, next) = next_number(question, at, 4294967295) else {
         return headed(Head::Bad);
     };
-    let Next::Text {
-        units: places,
-        next: end,
-    } = next_text(question, next, out)
-    else {
+    let Next::Text(places, end) = next_text(question, next, out) else {
         return headed(Head::Bad);
     };
     if end <= question.len() {
@@ -145,28 +117,16 @@ pub fn read(
     requires { ⌜ Lent (length (now question)) at (length (now name)) (length (now text)) (length (now numbers)) (length (now out)) ⌝ }
     ensures { λ r. ⌜ ((spans : List ℕ) → Says (lentReadAnswer (wordsAt (now (question .entry)) at)) r (now (out .exit)) spans (now (numbers .exit))) ⌝ }
 {
-    let Next::Text { units: exe, next } = next_text(question, at, name) else {
+    let Next::Text(exe, next) = next_text(question, at, name) else {
         return headed(Head::Bad);
     };
-    let Next::Text {
-        units: line,
-        next: second,
-    } = next_text(question, next, text)
-    else {
+    let Next::Text(line, second) = next_text(question, next, text) else {
         return headed(Head::Bad);
     };
-    let Next::Text {
-        units: places,
-        next: end,
-    } = next_text(question, second, out)
-    else {
+    let Next::Text(places, end) = next_text(question, second, out) else {
         return headed(Head::Bad);
     };
-    let Listing::Is {
-        units: _,
-        numbers: count,
-    } = take_numbers(question, end, numbers)
-    else {
+    let Listing::Is(_, count) = take_numbers(question, end, numbers) else {
         return headed(Head::Bad);
     };
     let p = parse_lp_cmd_line(
@@ -189,21 +149,13 @@ pub fn one(
     requires { ⌜ Lent (length (now question)) at (length (now question)) (length (now text)) (length (now numbers)) (length (now out)) ⌝ }
     ensures { λ r. ⌜ ((spans : List ℕ) → Says (partAnswer (wordsAt (now (question .entry)) at)) r (now (out .exit)) spans (now (numbers .exit))) ⌝ }
 {
-    let Next::Text { units, next } = next_text(question, at, text) else {
+    let Next::Text(units, next) = next_text(question, at, text) else {
         return headed(Head::Bad);
     };
-    let Count::Is {
-        number: index,
-        next: end,
-    } = next_number(question, next, 18446744073709551615)
-    else {
+    let Count::Is(index, end) = next_number(question, next, 18446744073709551615) else {
         return headed(Head::Bad);
     };
-    let Listing::Is {
-        units: _,
-        numbers: count,
-    } = take_numbers(question, end, numbers)
-    else {
+    let Listing::Is(_, count) = take_numbers(question, end, numbers) else {
         return headed(Head::Bad);
     };
     let part = argument(&text[..units], &numbers[..count], index as usize);

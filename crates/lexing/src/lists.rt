@@ -30,7 +30,7 @@ pub enum Entry {
 
 // All words that are left, as a list: how many units its texts have, and how many numbers there are.
 pub enum Listing {
-    Is { units: usize, numbers: usize },
+    Is(usize, usize),
     Ill,
 }
 
@@ -119,10 +119,7 @@ pub fn take_arguments(
             }
         }
     }
-    Listing::Is {
-        units: to,
-        numbers: n,
-    }
+    Listing::Is(to, n)
 }
 
 // All words that are left as environment entries.
@@ -147,10 +144,7 @@ pub fn take_entries(question: &[u8], start: usize, text: &mut [u16], numbers: &m
             }
         }
     }
-    Listing::Is {
-        units: to,
-        numbers: n,
-    }
+    Listing::Is(to, n)
 }
 
 // All words that are left as numbers.
@@ -173,8 +167,5 @@ pub fn take_numbers(question: &[u8], start: usize, numbers: &mut [u32]) -> Listi
             }
         }
     }
-    Listing::Is {
-        units: 0,
-        numbers: n,
-    }
+    Listing::Is(0, n)
 }

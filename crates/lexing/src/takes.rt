@@ -10,13 +10,13 @@ use octets::find;
 
 // The next word as a text: how many units it has, and where the word behind it starts.
 pub enum Next {
-    Text { units: usize, next: usize },
+    Text(usize, usize),
     Ill,
 }
 
 // The next word as a number, and where the word behind it starts.
 pub enum Count {
-    Is { number: u64, next: usize },
+    Is(u64, usize),
     Ill,
 }
 
@@ -39,10 +39,7 @@ pub fn next_text(question: &[u8], at: usize, text: &mut [u16]) -> Next
     }
     let end = word_end(question, at);
     match take_text(&question[at..end], true, text, 0) {
-        Filling::Units(units) => Next::Text {
-            units,
-            next: end + 1,
-        },
+        Filling::Units(units) => Next::Text(units, end + 1),
         Filling::Ill => Next::Ill,
     }
 }
@@ -56,10 +53,7 @@ pub fn next_number(question: &[u8], at: usize, most: u64) -> Count
     }
     let end = word_end(question, at);
     match number_of(&question[at..end], most) {
-        Number::Is(number) => Count::Is {
-            number,
-            next: end + 1,
-        },
+        Number::Is(number) => Count::Is(number, end + 1),
         Number::Ill => Count::Ill,
     }
 }
