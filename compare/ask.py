@@ -15,7 +15,7 @@ import model
 import questions
 
 # How many differences of each verb are shown.
-SHOWN = 5
+SHOWN = 20
 
 
 def run(command, lines):

@@ -241,16 +241,14 @@ def inner(units):
 
 
 def units(word):
+    """The units of a text, or a ValueError where it is not in its one form."""
     out, i = [], 0
-    word = '' if word == '{}' else word
-    while i < len(word):
-        if word[i] == '{':
-            end = word.index('}', i)
-            out.append(int(word[i + 1:end], 16))
-            i = end + 1
-        else:
-            out.append(ord(word[i]))
-            i += 1
+    while i < len(word) and word != '{}':
+        end = word.index('}', i) + 1 if word[i] == '{' else i + 1
+        out.append(int(word[i + 1:end - 1], 16) if word[i] == '{' else ord(word[i]))
+        i = end
+    if shown(out) != word:
+        raise ValueError(word)
     return out
 
 

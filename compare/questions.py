@@ -28,13 +28,18 @@ def short_arguments(most):
                 yield f'batch {force} a.bat 0:{word}'
 
 
-def each_unit():
-    """Every unit below 260 alone, before and behind a letter, in each form."""
-    for u in list(range(1, 260)) + POOL:
+def each_unit(units=None):
+    """Every unit below 260 and each of POOL, or those given, alone, before and behind a letter, in each form."""
+    for u in units or list(range(1, 260)) + POOL:
         for text in ([u], [97, u], [u, 97]):
             yield 'line 0 exe 0:' + shown(text)
             yield 'batch 0 a.bat 0:' + shown(text)
             yield 'batch 0 a.bat 1:' + shown(text)
+
+
+def each_alone():
+    """Every unit below 260 alone in a batch line, where its class decides on quotes."""
+    return ['batch 0 a.bat 0:' + shown([u]) for u in range(260)]
 
 
 def limits():
@@ -95,7 +100,7 @@ def faults():
                 for name in ('p', 'p{0}', 'p"q', 'p\\', '\\{0}', '{0}p', '{0}', '{0}{0}'):
                     yield f'line 0 {name} {words}'
                     yield f'batch 0 {name} {words}'
-    for entries in ('A{0}:1', 'A:{0}', 'A:1 {0}:2', 'A:1 B:{0} {0}:3', ':'.join(['{}', '{}']), 'a=b:c=d', '{3d}C{3a}:x'):
+    for entries in ('A{0}:1', 'A:{0}', 'A:1 {0}:2', 'A:1 B:{0} {0}:3', ':'.join(['{}', '{}']), 'a=b:c=d', '=C{3a}:x'):
         yield 'env ' + entries
     yield 'env'
 
@@ -223,7 +228,7 @@ def bad_questions():
     """Lines that are no question."""
     return ['', 'read', 'read x', 'read x y z', 'reads x y', 'read  x', 'read x y ', ' read x y', 'line 2 p', 'line 0', 'line 0 p 0', 'line 0 p :x', 'line 0 p 00:x',
             'line 0 p 0:', 'line 0 p 0:{}x', 'line 0 p 0:{61}', 'line 0 p 0:{020}', 'line 0 p 0:{2A0}', 'line 0 p 0:{10000}', 'line 0 p 0:{', 'line 0 p 0:}',
-            'line 0 p 4294967296:x', 'env A', 'env A:b:c', 'env :', 'env A:', 'suffix', 'suffix a b', 'status', 'status 4294967296', 'status 01', 'status -1', 'status 1 2',
+            'line 0 p 4294967296:x', 'env A', 'env A:b:c', 'env {3d}C{3a}:x', 'env A{3a}', 'env :', 'env A:', 'suffix', 'suffix a b', 'status', 'status 4294967296', 'status 01', 'status -1', 'status 1 2',
             'status x', 'lent-line 0 p t', 'lent-line 0 p t o 4294967296', 'lent-line 0 p t o 01', 'lent-status 1', 'lent-read e l', 'argument t', 'argument t 18446744073709551616',
             'argument t 00', 'read {22} x', 'READ x y', '#', 'read x\ty z']
 
@@ -240,7 +245,7 @@ def recorded():
     r = random.Random(20)
     exhaustive = list(short_lines(4))
     five = [q for q in short_lines(5) if len(q) > 0]
-    lists = [exhaustive, r.sample(five, 600), list(short_arguments(2)), r.sample(list(short_arguments(4)), 500), r.sample(list(each_unit()), 500), list(limits()),
+    lists = [exhaustive, r.sample(five, 600), list(short_arguments(2)), r.sample(list(short_arguments(4)), 500), list(each_unit(POOL)), each_alone(), list(limits()),
              statuses(), r.sample(list(suffixes()), 80), r.sample(list(faults()), 500), list(random_questions(20, 700)), list(lent_questions(20, 900)),
              list(lent_rooms()), list(lent_limits()), r.sample(list(lent_faults()), 400), bad_questions()]
     return [q for part in lists for q in part]

@@ -20,10 +20,10 @@ def main():
     for q, line in zip(asked, done.stdout.decode().split('\n')):
         whose, told = line.split(' ', 1)
         worked = 'bad' if q in bad else model.answer(q)
-        if whose == 'rust' and q not in bad:
-            by_rust += 1
-            if told != worked:
-                sys.exit(f'the Rust and 01 differ: {q[:200]}\n  {told[:200]}\n  {worked[:200]}')
+        lent = q.startswith(('lent-', 'argument'))
+        if told != worked and q not in bad and not lent:
+            sys.exit(f'the Rust and 01 differ: {q[:200]}\n  {told[:200]}\n  {worked[:200]}')
+        by_rust += whose == 'rust' and q not in bad
         answers.append(worked)
     open(f'{folder}/stdin', 'w').write('\n'.join(asked) + '\n')
     open(f'{folder}/stdout', 'w').write('\n'.join(answers) + '\n')
