@@ -37,7 +37,8 @@ slice-reshare-prefix-write-all c = search needs
 
 slice-aggregate-write-all : tie.Need-slice-aggregate-write-all Inv-loop μ-loop
 slice-aggregate-write-all c =
-    let at-last-line = c .before .before .before .before .before .before .before .before .before .before .before .before .before in
+    let at-out = c .before .before .before .before .before .before in
+    let at-last-line = at-out .before .before .before .before .before .before .before in
     sym (length-take-le _ _ (omega (arith, at-last-line .last-line .ensures)))
 
 write-all-requires : tie.Need-write-all-requires Inv-loop μ-loop
@@ -84,7 +85,9 @@ slice-reshare-prefix-write-all-2 c = search needs
 
 slice-aggregate-write-all-2 : tie.Need-slice-aggregate-write-all-2 Inv-loop μ-loop
 slice-aggregate-write-all-2 c =
-    let at-take-lines = c .before .before .before .before .before .before .before .before .before .before .before .before .before .before .before in
+    let at-out2 = c .before .before .before .before .before .before in
+    let at-name2 = at-out2 .before .before .before .before .before .before in
+    let at-take-lines = at-name2 .before .before .before in
     sym (length-take-le _ _ (omega (arith, at-take-lines .take-lines .ensures)))
 
 write-all-requires-2 : tie.Need-write-all-requires-2 Inv-loop μ-loop

@@ -10,7 +10,8 @@ returns c = search needs
 
 slice-aggregate-reply : tie.Need-slice-aggregate-reply
 slice-aggregate-reply c =
-    let entry = c .before .before .before .before .before .before .before .before .before in
+    let at-slice-known = c .before .before .before .before .before .before .before in
+    let entry = at-slice-known .before .before in
     sym (length-take-le _ _ (entry .pre))
 
 reply-requires : tie.Need-reply-requires

@@ -11,7 +11,12 @@ placed-requires c κs = search needs
 
 show-requires : tie.Need-show-requires
 show-requires c κs =
-    let entry = c .before .before .before .before .before .before .before .before .before .before .before .before .before .before .before .before .before .before .before .before .before .before .before .before .before .before .before .before in
+    let at-placed = c .before .before .before .before in
+    let at-numbers = at-placed .before .before .before .before .before .before in
+    let at-ask = at-numbers .before .before .before .before .before in
+    let at-ask-arg2 = at-ask .before .before .before .before in
+    let at-slice-known = at-ask-arg2 .before .before .before .before .before .before .before in
+    let entry = at-slice-known .before .before in
     rw (c .before .before .before .before .placed .ensures) (entry .pre)
 
 same-length : tie.Need-same-length

@@ -19,7 +19,8 @@ go-on-requires c κs = search needs
 
 loop-holds : tie.Need-loop-holds Inv-loop μ-loop
 loop-holds c =
-    let entry = c .before .before .before .before .before .before .before .before in
+    let at-shared-slice-known = c .before .before .before .before .before .before .before in
+    let entry = at-shared-slice-known .before in
     (refl, omega (arith, c .before .before .go-on .ensures .within (entry .pre), c .before .before .go-on .ensures .same))
 
 same-length : tie.Need-same-length Inv-loop μ-loop
@@ -51,7 +52,8 @@ loop-less c = search needs
 
 loop-again : tie.Need-loop-again Inv-loop μ-loop
 loop-again c =
-    let at-loop = c .before .before .before .before .before .before .before .before .before in
+    let at-write-all = c .before .before .before .before .before in
+    let at-loop = at-write-all .before .before .before .before in
     let g = c .before .before .go-on2 .ensures in
     let w = rw (c .before .before .before .before .placed .ensures) at (g .within) in
     (g .same ∙ at-loop .loop .inv .0, omega (arith, w (omega arith), g .same))

@@ -26,7 +26,8 @@ block-len-requires c κs = search needs
 returns-3 : tie.Need-returns-3
 unfolding blockLimit
 returns-3 c =
-    let a = c .before .before .before .before .before .before .before .before .before .args in
+    let at-first-outside = c .before .before .before .before .before in
+    let a = at-first-outside .before .before .before .before .args in
     let sound = no-place 1 (c .before .before .before .before .before .first-outside .ensures) (c .before .before .before .before .if1 .left) in
     let clean = no-place 5 (c .before .before .before .first-with-nul .ensures) (c .before .before .if2 .left) in
     by-length (a .records .now) (a .text .now) (a .out .now) sound clean (c .before .block-len .result) (c .before .block-len .ensures) (c .if3 .taken)
@@ -34,7 +35,8 @@ returns-3 c =
 returns-4 : tie.Need-returns-4
 unfolding blockLimit
 returns-4 c =
-    let a = c .before .before .before .before .before .before .before .before .before .before .args in
+    let at-first-outside = c .before .before .before .before .before .before in
+    let a = at-first-outside .before .before .before .before .args in
     let sound = no-place 1 (c .before .before .before .before .before .before .first-outside .ensures) (c .before .before .before .before .before .if1 .left) in
     let clean = no-place 5 (c .before .before .before .before .first-with-nul .ensures) (c .before .before .before .if2 .left) in
     by-room (a .records .now) (a .text .now) (a .out .now) sound clean (c .before .before .block-len .result) (c .before .before .block-len .ensures) (c .before .if3 .left) (c .if4 .taken)

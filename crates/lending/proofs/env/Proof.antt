@@ -103,25 +103,31 @@ slice-aggregate-make-envp c =
 
 slice-reshare-prefix-make-envp-2 : tie.Need-slice-reshare-prefix-make-envp-2
 slice-reshare-prefix-make-envp-2 c =
-    let at-units = c .before .before .before .before .before .before .before .before .before .before .before .before .before .before .before .before in
+    let at-take-numbers = c .before .before .before .before .before .before in
+    let at-next-text2 = at-take-numbers .before .before .before .before .before .before .before in
+    let at-units = at-next-text2 .before .before .before in
     let at-next-text = at-units .before .before .before .before in
     took-in (at-next-text .next-text .ensures) (at-units .units .given .1)
 
 slice-aggregate-make-envp-2 : tie.Need-slice-aggregate-make-envp-2
 slice-aggregate-make-envp-2 c =
-    let at-units = c .before .before .before .before .before .before .before .before .before .before .before .before .before .before .before .before .before in
+    let at-take-numbers = c .before .before .before .before .before .before .before in
+    let at-next-text2 = at-take-numbers .before .before .before .before .before .before .before in
+    let at-units = at-next-text2 .before .before .before in
     let at-next-text = at-units .before .before .before .before in
     took-length (at-next-text .next-text .ensures) (at-units .units .given .1)
 
 slice-relend-prefix-make-envp : tie.Need-slice-relend-prefix-make-envp
 slice-relend-prefix-make-envp c =
-    let at-places = c .before .before .before .before .before .before .before .before .before .before in
+    let at-take-numbers = c .before .before .before .before .before .before .before in
+    let at-places = at-take-numbers .before .before .before in
     let at-next-text2 = at-places .before .before .before .before in
     took-in (at-next-text2 .next-text2 .ensures) (at-places .places .given .1)
 
 slice-aggregate-make-envp-3 : tie.Need-slice-aggregate-make-envp-3
 slice-aggregate-make-envp-3 c =
-    let at-places = c .before .before .before .before .before .before .before .before .before .before .before in
+    let at-numbers = c .before .before .before .before .before .before .before in
+    let at-places = at-numbers .before .before .before .before in
     let at-next-text2 = at-places .before .before .before .before in
     took-length (at-next-text2 .next-text2 .ensures) (at-places .places .given .1)
 
@@ -132,7 +138,12 @@ built-in-requires : tie.Need-built-in-requires
 built-in-requires c κs = search needs
 
 same-length-7 : tie.Need-same-length-7
-same-length-7 c = c .before .before .before .before .before .before .before .before .before .before .before .before .before .before .before .before .before .before .before .before .before .before .before .before .before .before .next-text .ensures .same
+same-length-7 c =
+    let at-make-envp = c .before .before .before in
+    let at-match3 = at-make-envp .before .before .before .before .before .before in
+    let at-take-numbers = at-match3 .before .before .before in
+    let at-next-text2 = at-take-numbers .before .before .before .before .before .before .before in
+    at-next-text2 .before .before .before .before .before .before .before .next-text .ensures .same
 
 same-length-8 : tie.Need-same-length-8
 same-length-8 c = search needs
@@ -143,7 +154,8 @@ same-length-9 c = search needs
 returns-4 : tie.Need-returns-4
 unfolding lentEnvAnswer
 returns-4 c =
-    let at-count = c .before .before .before .before .before .before .before .before in
+    let at-make-envp = c .before .before .before in
+    let at-count = at-make-envp .before .before .before .before .before in
     let at-take-numbers = at-count .before .before .before .before in
     let at-places = at-take-numbers .before .before .before in
     let at-next-text2 = at-places .before .before .before .before in

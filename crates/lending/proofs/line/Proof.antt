@@ -131,7 +131,11 @@ headed-requires-5 : tie.Need-headed-requires-5
 headed-requires-5 c κs = search needs
 
 same-length-7 : tie.Need-same-length-7
-same-length-7 c = c .before .before .before .before .before .before .before .before .before .before .before .before .before .before .before .before .before .before .before .before .before .before .before .before .before .before .next-text .ensures .same
+same-length-7 c =
+    let at-take-numbers = c .before .before .before .before .before in
+    let at-next-text3 = at-take-numbers .before .before .before .before .before .before .before in
+    let at-next-text2 = at-next-text3 .before .before .before .before .before .before .before in
+    at-next-text2 .before .before .before .before .before .before .before .next-text .ensures .same
 
 same-length-8 : tie.Need-same-length-8
 same-length-8 c = search needs
@@ -158,13 +162,19 @@ returns-5 c =
 
 slice-reshare-prefix-make : tie.Need-slice-reshare-prefix-make
 slice-reshare-prefix-make c =
-    let at-program = c .before .before .before .before .before .before .before .before .before .before .before .before .before .before .before .before .before .before .before .before .before .before in
+    let at-take-numbers = c .before .before .before .before .before in
+    let at-next-text3 = at-take-numbers .before .before .before .before .before .before .before in
+    let at-next-text2 = at-next-text3 .before .before .before .before .before .before .before in
+    let at-program = at-next-text2 .before .before .before in
     let at-next-text = at-program .before .before .before .before in
     took-in (at-next-text .next-text .ensures) (at-program .program .given .1)
 
 slice-aggregate-make : tie.Need-slice-aggregate-make
 slice-aggregate-make c =
-    let at-program = c .before .before .before .before .before .before .before .before .before .before .before .before .before .before .before .before .before .before .before .before .before .before .before in
+    let at-take-numbers = c .before .before .before .before .before .before in
+    let at-next-text3 = at-take-numbers .before .before .before .before .before .before .before in
+    let at-next-text2 = at-next-text3 .before .before .before .before .before .before .before in
+    let at-program = at-next-text2 .before .before .before in
     let at-next-text = at-program .before .before .before .before in
     took-length (at-next-text .next-text .ensures) (at-program .program .given .1)
 
@@ -180,25 +190,31 @@ slice-aggregate-make-2 c =
 
 slice-reshare-prefix-make-3 : tie.Need-slice-reshare-prefix-make-3
 slice-reshare-prefix-make-3 c =
-    let at-units = c .before .before .before .before .before .before .before .before .before .before .before .before .before .before .before .before .before in
+    let at-take-numbers = c .before .before .before .before .before .before .before in
+    let at-next-text3 = at-take-numbers .before .before .before .before .before .before .before in
+    let at-units = at-next-text3 .before .before .before in
     let at-next-text2 = at-units .before .before .before .before in
     took-in (at-next-text2 .next-text2 .ensures) (at-units .units .given .1)
 
 slice-aggregate-make-3 : tie.Need-slice-aggregate-make-3
 slice-aggregate-make-3 c =
-    let at-units = c .before .before .before .before .before .before .before .before .before .before .before .before .before .before .before .before .before .before in
+    let at-numbers = c .before .before .before .before .before .before .before in
+    let at-out = at-numbers .before .before .before .before .before .before .before in
+    let at-units = at-out .before .before .before .before in
     let at-next-text2 = at-units .before .before .before .before in
     took-length (at-next-text2 .next-text2 .ensures) (at-units .units .given .1)
 
 slice-relend-prefix-make : tie.Need-slice-relend-prefix-make
 slice-relend-prefix-make c =
-    let at-places = c .before .before .before .before .before .before .before .before .before .before .before in
+    let at-numbers = c .before .before .before .before .before .before .before in
+    let at-places = at-numbers .before .before .before .before in
     let at-next-text3 = at-places .before .before .before .before in
     took-in (at-next-text3 .next-text3 .ensures) (at-places .places .given .1)
 
 slice-aggregate-make-4 : tie.Need-slice-aggregate-make-4
 slice-aggregate-make-4 c =
-    let at-places = c .before .before .before .before .before .before .before .before .before .before .before .before in
+    let at-match5 = c .before .before .before .before .before .before in
+    let at-places = at-match5 .before .before .before .before .before .before in
     let at-next-text3 = at-places .before .before .before .before in
     took-length (at-next-text3 .next-text3 .ensures) (at-places .places .given .1)
 
@@ -209,24 +225,38 @@ built-in-requires : tie.Need-built-in-requires
 built-in-requires c κs = search needs
 
 same-length-11 : tie.Need-same-length-11
-same-length-11 c = c .before .before .before .before .before .before .before .before .before .before .before .before .before .before .before .before .before .before .before .before .before .before .before .before .before .before .before .before .before .before .before .before .before .before .next-text .ensures .same
+same-length-11 c =
+    let at-make = c .before .before .before in
+    let at-match5 = at-make .before .before .before .before .before .before .before in
+    let at-take-numbers = at-match5 .before .before .before in
+    let at-next-text3 = at-take-numbers .before .before .before .before .before .before .before in
+    let at-next-text2 = at-next-text3 .before .before .before .before .before .before .before in
+    at-next-text2 .before .before .before .before .before .before .before .next-text .ensures .same
 
 same-length-12 : tie.Need-same-length-12
-same-length-12 c = c .before .before .before .before .before .before .before .before .before .before .before .before .before .before .before .before .before .before .before .before .before .before .before .before .before .before .before .next-text2 .ensures .same
+same-length-12 c =
+    let at-make = c .before .before .before in
+    let at-match5 = at-make .before .before .before .before .before .before .before in
+    let at-take-numbers = at-match5 .before .before .before in
+    let at-next-text3 = at-take-numbers .before .before .before .before .before .before .before in
+    at-next-text3 .before .before .before .before .before .before .before .next-text2 .ensures .same
 
 same-length-13 : tie.Need-same-length-13
 same-length-13 c = search needs
 
 same-length-14 : tie.Need-same-length-14
 same-length-14 c =
-    let at-places = c .before .before .before .before .before .before .before .before .before .before .before .before .before .before .before .before in
+    let at-make = c .before .before .before in
+    let at-match5 = at-make .before .before .before .before .before .before .before in
+    let at-places = at-match5 .before .before .before .before .before .before in
     let at-next-text3 = at-places .before .before .before .before in
     length-front (at-next-text3 .next-text3 .last .1 .1 .0) (c .before .before .before .make .last .1 .1 .1 .1 .1 .0) (at-places .places .given .0 .0) (c .before .before .before .make .kept .1 .1 .1 .1 .1 .0) ∙ at-next-text3 .next-text3 .ensures .same
 
 returns-6 : tie.Need-returns-6
 unfolding lentLineAnswer
 returns-6 c =
-    let at-count = c .before .before .before .before .before .before .before .before .before in
+    let at-make = c .before .before .before in
+    let at-count = at-make .before .before .before .before .before .before in
     let at-take-numbers = at-count .before .before .before .before in
     let at-places = at-take-numbers .before .before .before in
     let at-next-text3 = at-places .before .before .before .before in

@@ -88,13 +88,15 @@ returns-3 c =
 
 slice-reshare-prefix-argument : tie.Need-slice-reshare-prefix-argument
 slice-reshare-prefix-argument c =
-    let at-units = c .before .before .before .before .before .before .before .before .before .before .before .before in
+    let at-take-numbers = c .before .before .before .before .before in
+    let at-units = at-take-numbers .before .before .before .before .before .before .before in
     let at-next-text = at-units .before .before .before .before in
     took-in (at-next-text .next-text .ensures) (at-units .units .given .1)
 
 slice-aggregate-argument : tie.Need-slice-aggregate-argument
 slice-aggregate-argument c =
-    let at-units = c .before .before .before .before .before .before .before .before .before .before .before .before .before in
+    let at-take-numbers = c .before .before .before .before .before .before in
+    let at-units = at-take-numbers .before .before .before .before .before .before .before in
     let at-next-text = at-units .before .before .before .before in
     took-length (at-next-text .next-text .ensures) (at-units .units .given .1)
 
@@ -118,7 +120,11 @@ alone-requires : tie.Need-alone-requires
 alone-requires c κs = search needs
 
 same-length-5 : tie.Need-same-length-5
-same-length-5 c = c .before .before .before .before .before .before .before .before .before .before .before .before .before .before .before .before .before .before .before .before .before .before .before .before .next-text .ensures .same
+same-length-5 c =
+    let at-argument = c .before .before .before .before .before in
+    let at-numbers = at-argument .before .before .before .before .before .before .before in
+    let at-next-number = at-numbers .before .before .before .before .before .before in
+    at-next-number .before .before .before .before .before .before .next-text .ensures .same
 
 same-length-6 : tie.Need-same-length-6
 same-length-6 c = search needs

@@ -107,7 +107,11 @@ headed-requires-4 : tie.Need-headed-requires-4
 headed-requires-4 c κs = search needs
 
 same-length-7 : tie.Need-same-length-7
-same-length-7 c = c .before .before .before .before .before .before .before .before .before .before .before .before .before .before .before .before .before .before .before .before .before .before .before .before .before .before .next-text .ensures .same
+same-length-7 c =
+    let at-take-numbers = c .before .before .before .before .before in
+    let at-next-text3 = at-take-numbers .before .before .before .before .before .before .before in
+    let at-next-text2 = at-next-text3 .before .before .before .before .before .before .before in
+    at-next-text2 .before .before .before .before .before .before .before .next-text .ensures .same
 
 same-length-8 : tie.Need-same-length-8
 same-length-8 c = search needs
@@ -132,43 +136,56 @@ returns-4 c =
 
 slice-reshare-prefix-parse-lp-cmd-line : tie.Need-slice-reshare-prefix-parse-lp-cmd-line
 slice-reshare-prefix-parse-lp-cmd-line c =
-    let at-line = c .before .before .before .before .before .before .before .before .before .before .before .before .before .before .before in
+    let at-take-numbers = c .before .before .before .before .before in
+    let at-next-text3 = at-take-numbers .before .before .before .before .before .before .before in
+    let at-line = at-next-text3 .before .before .before in
     let at-next-text2 = at-line .before .before .before .before in
     took-in (at-next-text2 .next-text2 .ensures) (at-line .line .given .1)
 
 slice-aggregate-parse-lp-cmd-line : tie.Need-slice-aggregate-parse-lp-cmd-line
 slice-aggregate-parse-lp-cmd-line c =
-    let at-line = c .before .before .before .before .before .before .before .before .before .before .before .before .before .before .before .before in
+    let at-take-numbers = c .before .before .before .before .before .before in
+    let at-next-text3 = at-take-numbers .before .before .before .before .before .before .before in
+    let at-line = at-next-text3 .before .before .before in
     let at-next-text2 = at-line .before .before .before .before in
     took-length (at-next-text2 .next-text2 .ensures) (at-line .line .given .1)
 
 slice-reshare-prefix-parse-lp-cmd-line-2 : tie.Need-slice-reshare-prefix-parse-lp-cmd-line-2
 slice-reshare-prefix-parse-lp-cmd-line-2 c =
-    let at-exe = c .before .before .before .before .before .before .before .before .before .before .before .before .before .before .before .before .before .before .before .before .before .before .before in
+    let at-take-numbers = c .before .before .before .before .before .before in
+    let at-next-text3 = at-take-numbers .before .before .before .before .before .before .before in
+    let at-next-text2 = at-next-text3 .before .before .before .before .before .before .before in
+    let at-exe = at-next-text2 .before .before .before in
     let at-next-text = at-exe .before .before .before .before in
     took-in (at-next-text .next-text .ensures) (at-exe .exe .given .1)
 
 slice-aggregate-parse-lp-cmd-line-2 : tie.Need-slice-aggregate-parse-lp-cmd-line-2
 slice-aggregate-parse-lp-cmd-line-2 c =
-    let at-exe = c .before .before .before .before .before .before .before .before .before .before .before .before .before .before .before .before .before .before .before .before .before .before .before .before in
+    let at-take-numbers = c .before .before .before .before .before .before .before in
+    let at-next-text3 = at-take-numbers .before .before .before .before .before .before .before in
+    let at-next-text2 = at-next-text3 .before .before .before .before .before .before .before in
+    let at-exe = at-next-text2 .before .before .before in
     let at-next-text = at-exe .before .before .before .before in
     took-length (at-next-text .next-text .ensures) (at-exe .exe .given .1)
 
 slice-relend-prefix-parse-lp-cmd-line : tie.Need-slice-relend-prefix-parse-lp-cmd-line
 slice-relend-prefix-parse-lp-cmd-line c =
-    let at-places = c .before .before .before .before .before .before .before .before .before .before in
+    let at-take-numbers = c .before .before .before .before .before .before .before in
+    let at-places = at-take-numbers .before .before .before in
     let at-next-text3 = at-places .before .before .before .before in
     took-in (at-next-text3 .next-text3 .ensures) (at-places .places .given .1)
 
 slice-aggregate-parse-lp-cmd-line-3 : tie.Need-slice-aggregate-parse-lp-cmd-line-3
 slice-aggregate-parse-lp-cmd-line-3 c =
-    let at-places = c .before .before .before .before .before .before .before .before .before .before .before in
+    let at-numbers = c .before .before .before .before .before .before .before in
+    let at-places = at-numbers .before .before .before .before in
     let at-next-text3 = at-places .before .before .before .before in
     took-length (at-next-text3 .next-text3 .ensures) (at-places .places .given .1)
 
 slice-relend-prefix-parse-lp-cmd-line-2 : tie.Need-slice-relend-prefix-parse-lp-cmd-line-2
 slice-relend-prefix-parse-lp-cmd-line-2 c =
-    let at-take-numbers = c .before .before .before .before .before .before .before .before in
+    let at-numbers = c .before .before .before .before .before .before .before in
+    let at-take-numbers = at-numbers .before in
     list-in (at-take-numbers .take-numbers .ensures) (c .before .before .before .before .count .given .1) .1
 
 slice-aggregate-parse-lp-cmd-line-4 : tie.Need-slice-aggregate-parse-lp-cmd-line-4
@@ -184,10 +201,21 @@ parsed-in-requires : tie.Need-parsed-in-requires
 parsed-in-requires c κs = search needs
 
 same-length-11 : tie.Need-same-length-11
-same-length-11 c = c .before .before .before .before .before .before .before .before .before .before .before .before .before .before .before .before .before .before .before .before .before .before .before .before .before .before .before .before .before .before .before .before .before .before .before .before .next-text .ensures .same
+same-length-11 c =
+    let at-parse-lp-cmd-line = c .before .before .before .before .before in
+    let at-match4 = at-parse-lp-cmd-line .before .before .before .before .before .before .before in
+    let at-take-numbers = at-match4 .before .before .before in
+    let at-next-text3 = at-take-numbers .before .before .before .before .before .before .before in
+    let at-next-text2 = at-next-text3 .before .before .before .before .before .before .before in
+    at-next-text2 .before .before .before .before .before .before .before .next-text .ensures .same
 
 same-length-12 : tie.Need-same-length-12
-same-length-12 c = c .before .before .before .before .before .before .before .before .before .before .before .before .before .before .before .before .before .before .before .before .before .before .before .before .before .before .before .before .before .next-text2 .ensures .same
+same-length-12 c =
+    let at-parse-lp-cmd-line = c .before .before .before .before .before in
+    let at-match4 = at-parse-lp-cmd-line .before .before .before .before .before .before .before in
+    let at-take-numbers = at-match4 .before .before .before in
+    let at-next-text3 = at-take-numbers .before .before .before .before .before .before .before in
+    at-next-text3 .before .before .before .before .before .before .before .next-text2 .ensures .same
 
 same-length-13 : tie.Need-same-length-13
 same-length-13 c = search needs
@@ -195,7 +223,8 @@ same-length-13 c = search needs
 same-length-14 : tie.Need-same-length-14
 same-length-14 c =
     let at-parse-lp-cmd-line = c .before .before .before .before .before in
-    let at-places = at-parse-lp-cmd-line .before .before .before .before .before .before .before .before .before .before .before .before .before in
+    let at-match4 = at-parse-lp-cmd-line .before .before .before .before .before .before .before in
+    let at-places = at-match4 .before .before .before .before .before .before in
     let at-next-text3 = at-places .before .before .before .before in
     length-front (at-next-text3 .next-text3 .last .1 .1 .0) (at-parse-lp-cmd-line .parse-lp-cmd-line .last .1 .1 .0) (at-places .places .given .0 .0) (at-parse-lp-cmd-line .parse-lp-cmd-line .kept .1 .1 .0) ∙ at-next-text3 .next-text3 .ensures .same
 

@@ -62,7 +62,8 @@ returns-3 c =
 
 cast-status-text : tie.Need-cast-status-text
 cast-status-text c =
-    let at-number = c .before .before .before .before .before .before .before .before .before in
+    let at-next-text = c .before .before .before .before .before .before in
+    let at-number = at-next-text .before .before .before in
     let at-next-number = at-number .before .before in
     omega (arith, count-in (at-next-number .next-number .ensures) (at-number .number .given .1))
 

@@ -37,8 +37,9 @@ loop-less c = search needs
 
 loop-again : tie.Need-loop-again Inv-loop μ-loop
 loop-again c =
+    let at-loop = c .before .before .before .before .before .before in
     let l = c .before .before .before .before .before .before .loop in
-    let at = c .before .before .before .before .before .before .before .before .before .args .at in
+    let at = at-loop .before .before .before .args .at in
     let turn = copy-turn (l .out) (at + l .i) (l .i) _ (c .before .before .before .before .before .loop-test .taken) in
     let next : at + (l .i + 1) ≡ at + l .i + 1 = omega arith in
     (omega arith, c .before .before .put-byte .kept .0 ∙ l .inv .1, rw (next, c .before .before .put-byte .ensures) (sym turn ∙ l .inv .2))

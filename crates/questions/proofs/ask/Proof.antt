@@ -70,7 +70,8 @@ same-length-5 c = search needs
 
 returns-3 : tie.Need-returns-3
 returns-3 c =
-    let at-ask-verb = c .before .before .before .before .before .before .before .before .before .before in
+    let at-text = c .before .before .before .before .before .before .before in
+    let at-ask-verb = at-text .before .before .before in
     let at-verb-of = at-ask-verb .before .before .before .before .before .before in
     let at-word-end = at-verb-of .before .before in
     let at-if1 = at-word-end .before .before in

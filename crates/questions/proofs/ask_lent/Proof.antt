@@ -63,7 +63,8 @@ same-length-4 c = search needs
 returns : tie.Need-returns
 unfolding lentAnswer
 returns c =
-    let at-line = c .before .before .before .before .before .before .before .before in
+    let at-name = c .before .before .before .before .before .before .before in
+    let at-line = at-name .before in
     let at-enum-told = at-line .before .before .before .before .before in
     λ spans. rw (at-enum-told .enum-told .given .1) (at-line .line .ensures spans)
 
@@ -82,7 +83,8 @@ same-length-8 c = search needs
 returns-2 : tie.Need-returns-2
 unfolding lentAnswer
 returns-2 c =
-    let at-line2 = c .before .before .before .before .before .before .before .before in
+    let at-name2 = c .before .before .before .before .before .before .before in
+    let at-line2 = at-name2 .before in
     let at-enum-told2 = at-line2 .before .before .before .before .before in
     λ spans. rw (at-enum-told2 .enum-told2 .given .1) (at-line2 .line2 .ensures spans)
 
@@ -124,7 +126,8 @@ same-length-16 c = search needs
 returns-5 : tie.Need-returns-5
 unfolding lentAnswer
 returns-5 c =
-    let at-read = c .before .before .before .before .before .before .before .before in
+    let at-name3 = c .before .before .before .before .before .before .before in
+    let at-read = at-name3 .before in
     let at-enum-told5 = at-read .before .before .before .before .before in
     λ spans. rw (at-enum-told5 .enum-told5 .given .1) (at-read .read .ensures spans)
 

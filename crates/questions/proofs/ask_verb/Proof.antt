@@ -61,7 +61,8 @@ same-length-4 c = search needs
 returns : tie.Need-returns
 unfolding verbAnswer
 returns c =
-    let at-read = c .before .before .before .before .before .before .before .before in
+    let at-name = c .before .before .before .before .before .before .before in
+    let at-read = at-name .before in
     let at-enum-told = at-read .before .before .before .before .before in
     rw (at-enum-told .enum-told .given .1) (at-read .read .ensures _)
 
@@ -80,7 +81,8 @@ same-length-8 c = search needs
 returns-2 : tie.Need-returns-2
 unfolding verbAnswer
 returns-2 c =
-    let at-line = c .before .before .before .before .before .before .before .before in
+    let at-name2 = c .before .before .before .before .before .before .before in
+    let at-line = at-name2 .before in
     let at-enum-told2 = at-line .before .before .before .before .before in
     rw (at-enum-told2 .enum-told2 .given .1) (at-line .line .ensures _)
 
@@ -99,7 +101,8 @@ same-length-12 c = search needs
 returns-3 : tie.Need-returns-3
 unfolding verbAnswer
 returns-3 c =
-    let at-line2 = c .before .before .before .before .before .before .before .before in
+    let at-name3 = c .before .before .before .before .before .before .before in
+    let at-line2 = at-name3 .before in
     let at-enum-told3 = at-line2 .before .before .before .before .before in
     rw (at-enum-told3 .enum-told3 .given .1) (at-line2 .line2 .ensures _)
 
@@ -153,7 +156,8 @@ same-length-22 c = search needs
 returns-7 : tie.Need-returns-7
 unfolding verbAnswer
 returns-7 c =
-    let at-ask-lent = c .before .before .before .before .before .before .before .before in
+    let at-name5 = c .before .before .before .before .before .before .before in
+    let at-ask-lent = at-name5 .before in
     let at-verb = at-ask-lent .before .before .before .before .before .before in
     rw (at-verb .verb .given .1) (at-ask-lent .ask-lent .ensures _)
 

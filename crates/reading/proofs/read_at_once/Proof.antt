@@ -15,7 +15,9 @@ same-length-2 : tie.Need-same-length-2
 same-length-2 c = search needs
 
 returns : tie.Need-returns
-returns c = let h = c .before .before .before .before .before .before .before .before .before .before .before .pre .1 in gives (all-housed _ _ _ h) (c .before .before .before .before .lay-line .ensures) refl refl (h .text) (h .places)
+returns c =
+    let at-lay-line = c .before .before .before .before in
+    let h = at-lay-line .before .before .before .before .before .before .before .pre .1 in gives (all-housed _ _ _ h) (c .before .before .before .before .lay-line .ensures) refl refl (h .text) (h .places)
 
 pub read-at-once-spec : {M : Type 1} → statement M
 read-at-once-spec = tie.close (tie.spec lay-line-requires same-length same-length-2 returns)

@@ -31,8 +31,9 @@ same-length-2 c = search needs
 
 returns : tie.Need-returns
 returns c =
+    let at-lay-line = c .before .before .before .before .before .before in
     let m = c .before .before .before .before .before .before .lay-line .ensures in
-    let a = c .before .before .before .before .before .before .before .before .before .before .before .before .before .args in
+    let a = at-lay-line .before .before .before .before .before .before .before .args in
     let text = text-kept (a .text .now) m in
     let spans = spans-kept (a .spans .now) m in
     let lent = ap length spans in
@@ -47,8 +48,10 @@ same-length-4 c = search needs
 
 returns-2 : tie.Need-returns-2
 returns-2 c =
-    let m = c .before .before .before .before .before .before .before .before .lay-line .ensures in
-    let a = c .before .before .before .before .before .before .before .before .before .before .before .before .before .before .before .args in
+    let at-text = c .before .before .before .before .before .before .before in
+    let at-shared-slice-known = at-text .before .before .before .before .before .before .before in
+    let m = at-text .before .lay-line .ensures in
+    let a = at-shared-slice-known .before .args in
     let text = text-kept (a .text .now) m in
     let spans = spans-kept (a .spans .now) m in
     let lent = ap length spans in
@@ -62,13 +65,15 @@ returns-2 c =
 
 read-at-once-requires : tie.Need-read-at-once-requires
 read-at-once-requires c κs =
-    let m = c .before .before .before .before .before .before .before .before .before .before .lay-line .ensures in
-    let a = c .before .before .before .before .before .before .before .before .before .before .before .before .before .before .before .before .before .args in
+    let at-if1 = c .before .before .before .before in
+    let at-lay-line = at-if1 .before .before .before .before .before .before in
+    let m = at-if1 .before .before .before .before .before .before .lay-line .ensures in
+    let a = at-lay-line .before .before .before .before .before .before .before .args in
     let text = text-kept (a .text .now) m in
     let spans = spans-kept (a .spans .now) m in
     let lent = ap length spans in
     let lent′ = ap length text in
-    (c .before .before .before .before .before .before .before .before .before .before .before .before .before .before .before .before .before .pre, rw (text, spans) (record { places = omega (arith, m .counts, c .before .before .before .before .if1 .left); text = omega (arith, m .measures, c .before .before .if2 .left) }))
+    (at-lay-line .before .before .before .before .before .before .before .pre, rw (text, spans) (record { places = omega (arith, m .counts, c .before .before .before .before .if1 .left); text = omega (arith, m .measures, c .before .before .if2 .left) }))
 
 same-length-5 : tie.Need-same-length-5
 same-length-5 c = search needs
@@ -78,9 +83,12 @@ same-length-6 c = search needs
 
 returns-3 : tie.Need-returns-3
 returns-3 c =
+    let at-read-at-once = c .before .before .before .before in
     let r = c .before .before .before .before in
-    let m = r .before .before .before .before .before .before .before .before .before .before .before .lay-line .ensures in
-    let a = c .before .before .before .before .before .before .before .before .before .before .before .before .before .before .before .before .before .before .before .before .before .before .args in
+    let at-if1 = r .before .before .before .before .before in
+    let at-lay-line = at-if1 .before .before .before .before .before .before in
+    let m = at-if1 .before .before .before .before .before .before .lay-line .ensures in
+    let a = at-lay-line .before .before .before .before .before .before .before .args in
     rw (text-kept (a .text .now) m, spans-kept (a .spans .now) m) at (r .read-at-once .ensures)
 
 pub read-measured-spec : {M : Type 1} → statement M

@@ -22,8 +22,9 @@ same-length c = search needs
 
 returns-2 : tie.Need-returns-2
 returns-2 c =
-    let a = c .before .before .before .before .before .before .before .before .before .before .before .before .args in
-    let tested = c .before .before .before .before .before .before .before .before .if1 in
+    let at-copy-run = c .before .before .before .before .before .before in
+    let a = at-copy-run .before .before .before .before .before .before .args in
+    let tested = at-copy-run .before .before .if1 in
     room (now (a .front)) (now (a .digits)) (now (a .out)) _ _ (tested .left) (c .before .before .before .before .before .before .copy-run .ensures) (c .before .before .copy-run2 .ensures)
 
 pub answer-spec : {M : Type 1} → statement M

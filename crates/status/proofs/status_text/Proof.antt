@@ -32,8 +32,9 @@ same-length c = search needs
 returns : tie.Need-returns
 unfolding units
 returns c =
-    let start = c .before .before .before .before .before .before .before .before .before .before .before in
-    let tested = c .before .before .before .before .before .before .before .before .before .if1 in
+    let at-lay-digits = c .before .before .before .before .before .before .before in
+    let start = at-lay-digits .before .before .before .before in
+    let tested = at-lay-digits .before .before .if1 in
     let laid = c .before .before .before .before .before .before .before .lay-digits in
     of-status (start .args .status)
     (decimal-text (start .args .status) (laid .result) (laid .last .1 .1 .0) (tested .taken) (laid .ensures))
@@ -66,8 +67,9 @@ same-length-2 c = search needs
 returns-2 : tie.Need-returns-2
 unfolding units
 returns-2 c =
-    let start = c .before .before .before .before .before .before .before .before .before .before .before in
-    let tested = c .before .before .before .before .before .before .before .before .before .if1 in
+    let at-lay-digits2 = c .before .before .before .before .before .before .before in
+    let start = at-lay-digits2 .before .before .before .before in
+    let tested = at-lay-digits2 .before .before .if1 in
     let laid = c .before .before .before .before .before .before .before .lay-digits2 in
     of-status (start .args .status)
     (hexadecimal-text (start .args .status) (laid .result) (laid .last .1 .1 .0) (tested .left) (start .fits .status .fits) (laid .ensures))

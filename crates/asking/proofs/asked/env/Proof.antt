@@ -38,17 +38,20 @@ slice-reshare-prefix-make-envp c =
 
 slice-aggregate-make-envp : tie.Need-slice-aggregate-make-envp
 slice-aggregate-make-envp c =
-    let at-take-entries = c .before .before .before .before .before .before .before .before in
+    let at-text = c .before .before .before .before .before .before .before in
+    let at-take-entries = at-text .before in
     list-length (at-take-entries .take-entries .ensures) (c .before .before .units .given .1) .1
 
 slice-reshare-prefix-make-envp-2 : tie.Need-slice-reshare-prefix-make-envp-2
 slice-reshare-prefix-make-envp-2 c =
-    let at-take-entries = c .before .before .before .before .before .before .before .before in
+    let at-text = c .before .before .before .before .before .before .before in
+    let at-take-entries = at-text .before in
     list-in (at-take-entries .take-entries .ensures) (c .before .before .units .given .1) .0
 
 slice-aggregate-make-envp-2 : tie.Need-slice-aggregate-make-envp-2
 slice-aggregate-make-envp-2 c =
-    let at-take-entries = c .before .before .before .before .before .before .before .before .before in
+    let at-numbers = c .before .before .before .before .before .before in
+    let at-take-entries = at-numbers .before .before .before in
     list-length (at-take-entries .take-entries .ensures) (c .before .before .before .units .given .1) .0
 
 make-envp-requires : tie.Need-make-envp-requires
@@ -69,7 +72,8 @@ same-length-5 c = search needs
 returns-2 : tie.Need-returns-2
 unfolding envAnswer
 returns-2 c =
-    let at-units = c .before .before .before .before .before .before .before .before in
+    let at-make-envp = c .before .before .before in
+    let at-units = at-make-envp .before .before .before .before .before in
     let at-take-entries = at-units .before .before .before .before .before .before in
     λ spans. says-taken _ spans _ (c .built .ensures .says _ spans _ ∙ built-says _ _ (c .before .before .before .make-envp .ensures)) (rw (list-is (at-take-entries .take-entries .ensures) (at-units .units .given .1)))
 

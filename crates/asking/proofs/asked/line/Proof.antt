@@ -91,34 +91,40 @@ returns-3 c =
 
 slice-reshare-prefix-make : tie.Need-slice-reshare-prefix-make
 slice-reshare-prefix-make c =
-    let at-program = c .before .before .before .before .before .before .before .before .before .before .before in
+    let at-take-arguments = c .before .before .before .before .before .before .before in
+    let at-program = at-take-arguments .before .before .before .before in
     let at-next-text = at-program .before .before .before .before in
     took-in (at-next-text .next-text .ensures) (at-program .program .given .1)
 
 slice-aggregate-make : tie.Need-slice-aggregate-make
 slice-aggregate-make c =
-    let at-program = c .before .before .before .before .before .before .before .before .before .before .before .before in
+    let at-text = c .before .before .before .before .before .before .before in
+    let at-program = at-text .before .before .before .before .before in
     let at-next-text = at-program .before .before .before .before in
     took-length (at-next-text .next-text .ensures) (at-program .program .given .1)
 
 slice-reshare-prefix-make-2 : tie.Need-slice-reshare-prefix-make-2
 slice-reshare-prefix-make-2 c =
-    let at-take-arguments = c .before .before .before .before .before .before .before .before in
+    let at-text = c .before .before .before .before .before .before .before in
+    let at-take-arguments = at-text .before in
     list-in (at-take-arguments .take-arguments .ensures) (c .before .before .units .given .1) .1
 
 slice-aggregate-make-2 : tie.Need-slice-aggregate-make-2
 slice-aggregate-make-2 c =
-    let at-take-arguments = c .before .before .before .before .before .before .before .before .before in
+    let at-numbers = c .before .before .before .before .before .before in
+    let at-take-arguments = at-numbers .before .before .before in
     list-length (at-take-arguments .take-arguments .ensures) (c .before .before .before .units .given .1) .1
 
 slice-reshare-prefix-make-3 : tie.Need-slice-reshare-prefix-make-3
 slice-reshare-prefix-make-3 c =
-    let at-take-arguments = c .before .before .before .before .before .before .before .before .before in
+    let at-numbers = c .before .before .before .before .before .before in
+    let at-take-arguments = at-numbers .before .before .before in
     list-in (at-take-arguments .take-arguments .ensures) (c .before .before .before .units .given .1) .0
 
 slice-aggregate-make-3 : tie.Need-slice-aggregate-make-3
 slice-aggregate-make-3 c =
-    let at-take-arguments = c .before .before .before .before .before .before .before .before .before .before in
+    let at-numbers = c .before .before .before .before .before .before .before in
+    let at-take-arguments = at-numbers .before .before .before in
     list-length (at-take-arguments .take-arguments .ensures) (c .before .before .before .before .units .given .1) .0
 
 make-requires : tie.Need-make-requires
@@ -128,7 +134,12 @@ built-requires : tie.Need-built-requires
 built-requires c κs = search needs
 
 same-length-5 : tie.Need-same-length-5
-same-length-5 c = c .before .before .before .before .before .before .before .before .before .before .before .before .before .before .before .before .before .before .before .before .before .before .before .next-text .ensures .same
+same-length-5 c =
+    let at-make = c .before .before .before in
+    let at-match3 = at-make .before .before .before .before .before .before .before in
+    let at-take-arguments = at-match3 .before .before .before .before .before in
+    let at-name = at-take-arguments .before .before .before .before .before .before .before in
+    at-name .before .next-text .ensures .same
 
 same-length-6 : tie.Need-same-length-6
 same-length-6 c = search needs
@@ -142,7 +153,8 @@ same-length-8 c = search needs
 returns-4 : tie.Need-returns-4
 unfolding lineAnswer
 returns-4 c =
-    let at-units = c .before .before .before .before .before .before .before .before .before in
+    let at-make = c .before .before .before in
+    let at-units = at-make .before .before .before .before .before .before in
     let at-take-arguments = at-units .before .before .before .before .before .before in
     let at-program = at-take-arguments .before .before .before .before in
     let at-next-text = at-program .before .before .before .before in

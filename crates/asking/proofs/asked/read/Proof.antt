@@ -83,13 +83,15 @@ slice-aggregate-parse-lp-cmd-line c =
 
 slice-reshare-prefix-parse-lp-cmd-line-2 : tie.Need-slice-reshare-prefix-parse-lp-cmd-line-2
 slice-reshare-prefix-parse-lp-cmd-line-2 c =
-    let at-exe = c .before .before .before .before .before .before .before .before .before .before in
+    let at-next-text2 = c .before .before .before .before .before .before .before in
+    let at-exe = at-next-text2 .before .before .before in
     let at-next-text = at-exe .before .before .before .before in
     took-in (at-next-text .next-text .ensures) (at-exe .exe .given .1)
 
 slice-aggregate-parse-lp-cmd-line-2 : tie.Need-slice-aggregate-parse-lp-cmd-line-2
 slice-aggregate-parse-lp-cmd-line-2 c =
-    let at-exe = c .before .before .before .before .before .before .before .before .before .before .before in
+    let at-text = c .before .before .before .before .before .before .before in
+    let at-exe = at-text .before .before .before .before in
     let at-next-text = at-exe .before .before .before .before in
     took-length (at-next-text .next-text .ensures) (at-exe .exe .given .1)
 

@@ -68,7 +68,8 @@ same-length-2 c = search needs
 returns-3 : tie.Need-returns-3
 unfolding statusAnswer
 returns-3 c =
-    let at-put-number = c .before .before .before .before .before .before .before .before in
+    let at-status-text = c .before .before .before .before in
+    let at-put-number = at-status-text .before .before .before .before in
     let at-magnitude = at-put-number .before in
     let at-code = at-magnitude .before .before in
     let at-if1 = at-code .before in

@@ -15,7 +15,8 @@ same-length c = search needs
 returns : tie.Need-returns
 unfolding blockLimit
 returns c =
-    let a = c .before .before .before .before .before .before .before .before .args in
+    let at-put-entries = c .before .before .before in
+    let a = at-put-entries .before .before .before .before .before .args in
     block-past blockLimit _ (entriesOf (a .text .now) (a .records .now)) _ _ (c .before .before .before .put-entries .ensures) (c .if1 .taken)
 
 put-requires : tie.Need-put-requires
@@ -30,9 +31,11 @@ same-length-2 c = search needs
 returns-2 : tie.Need-returns-2
 unfolding blockLimit
 returns-2 c =
-    let a = c .before .before .before .before .before .before .before .before .before .before .before .before .before .before .before .before .before .args in
-    let entries = c .before .before .before .before .before .before .before .before .before .before .before .before .put-entries in
-    let tested = c .before .before .before .before .before .before .before .before .before .if1 in
+    let at-put = c .before .before .before .before .before .before .before in
+    let at-put-entries = at-put .before .before .before .before .before in
+    let a = at-put-entries .before .before .before .before .before .args in
+    let entries = at-put .before .before .before .before .before .put-entries in
+    let tested = at-put .before .before .if1 in
     block-empty blockLimit _ (entriesOf (a .text .now) (a .records .now)) _ _ (entries .ensures) _ _ (tested .left) (c .before .before .before .before .if2 .taken) (c .before .before .before .before .before .before .before .put .ensures) (c .before .before .put2 .ensures)
 
 add-result : tie.Need-add-result
@@ -44,8 +47,10 @@ same-length-3 c = search needs
 returns-3 : tie.Need-returns-3
 unfolding blockLimit
 returns-3 c =
-    let a = c .before .before .before .before .before .before .before .before .before .before .before .before .before .args in
-    let entries = c .before .before .before .before .before .before .before .before .put-entries in
+    let at-put = c .before .before .before in
+    let at-put-entries = at-put .before .before .before .before .before in
+    let a = at-put-entries .before .before .before .before .before .args in
+    let entries = at-put .before .before .before .before .before .put-entries in
     block-full blockLimit _ (entriesOf (a .text .now) (a .records .now)) _ _ (entries .ensures) _ (c .before .before .before .before .before .if1 .left) (c .if2 .left) (c .before .before .before .put .ensures)
 
 pub put-block-spec : {M : Type 1} → statement M

@@ -33,7 +33,8 @@ same-length c = search needs
 returns : tie.Need-returns Inv-loop μ-loop
 unfolding blockLimit
 returns c =
-    let a = c .before .before .before .before .before .before .before .before .before .before .before .args in
+    let at-record-at = c .before .before .before .before in
+    let a = at-record-at .before .before .before .before .before .before .before .args in
     let l = c .before .before .before .before .before .before .before .loop in
     too-many (l .inv .1) (next-entry (a .text .now) (a .records .now) (l .at) (c .before .before .before .before .record-at .ensures) (c .before .before .before .before .before .before .loop-test .taken)) (c .before .before .before .put-entry .ensures) (c .if1 .taken)
 
@@ -46,7 +47,8 @@ loop-less c = search needs
 loop-again : tie.Need-loop-again Inv-loop μ-loop
 unfolding blockLimit
 loop-again c =
-    let a = c .before .before .before .before .before .before .before .before .before .before .before .args in
+    let at-record-at = c .before .before .before .before in
+    let a = at-record-at .before .before .before .before .before .before .before .args in
     let l = c .before .before .before .before .before .before .before .loop in (
       search needs,
       one-put (l .inv .1) (next-entry (a .text .now) (a .records .now) (l .at) (c .before .before .before .before .record-at .ensures) (c .before .before .before .before .before .before .loop-test .taken)) (c .before .before .before .put-entry .ensures) (c .if1 .left) (c .before .before .before .put-entry .kept .0),

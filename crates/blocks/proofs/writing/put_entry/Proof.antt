@@ -27,8 +27,9 @@ part-of-requires-2 c κs = search needs
 add-start : tie.Need-add-start
 unfolding blockLimit
 add-start c =
-    let start = c .before .before .before .before .before .before .before .before .before .before .before .before in
-    let key = c .before .before .before .before .before .before .before .before .before .part-of in
+    let at-copy-run = c .before .before .before .before .before .before .before in
+    let start = at-copy-run .before .before .before .before .before in
+    let key = at-copy-run .before .before .part-of in
     omega (arith, key .ok, start .pre)
 
 copy-run-requires-2 : tie.Need-copy-run-requires-2
@@ -37,8 +38,10 @@ copy-run-requires-2 c κs = search needs
 add-last : tie.Need-add-last
 unfolding blockLimit
 add-last c =
-    let start = c .before .before .before .before .before .before .before .before .before .before .before .before .before .before .before .before in
-    let key = c .before .before .before .before .before .before .before .before .before .before .before .before .before .part-of in
+    let at-put = c .before .before .before .before .before .before .before in
+    let at-part-of = at-put .before .before .before .before .before .before in
+    let start = at-part-of .before .before .before in
+    let key = at-put .before .before .before .before .before .before .part-of in
     omega (arith, key .ok, c .before .before .before .before .part-of2 .ok, start .pre)
 
 put-requires-2 : tie.Need-put-requires-2
@@ -47,9 +50,12 @@ put-requires-2 c κs = search needs
 add-result : tie.Need-add-result
 unfolding blockLimit
 add-result c =
-    let start = c .before .before .before .before .before .before .before .before .before .before .before .before .before .before .before .before .before .before .before .before in
-    let key = c .before .before .before .before .before .before .before .before .before .before .before .before .before .before .before .before .before .part-of in
-    let value = c .before .before .before .before .before .before .before .before .part-of2 in
+    let at-copy-run2 = c .before .before .before .before .before .before in
+    let at-put = at-copy-run2 .before .before .before .before .before in
+    let at-part-of = at-put .before .before .before .before .before .before in
+    let start = at-part-of .before .before .before in
+    let key = at-put .before .before .before .before .before .before .part-of in
+    let value = at-copy-run2 .before .before .part-of2 in
     omega (arith, key .ok, value .ok, start .pre)
 
 same-length : tie.Need-same-length
@@ -57,11 +63,14 @@ same-length c = search needs
 
 returns : tie.Need-returns
 returns c =
-    let a = c .before .before .before .before .before .before .before .before .before .before .before .before .before .before .before .before .before .before .before .before .args in
-    let key = c .before .before .before .before .before .before .before .before .before .before .before .before .before .before .before .before .before .part-of in
-    let copied = c .before .before .before .before .before .before .before .before .before .before .before .before .before .before .before .copy-run in
-    let marked = c .before .before .before .before .before .before .before .before .before .before .before .put in
-    let value = c .before .before .before .before .before .before .before .before .part-of2 in
+    let at-copy-run2 = c .before .before .before .before .before .before in
+    let at-put = at-copy-run2 .before .before .before .before .before in
+    let at-part-of = at-put .before .before .before .before .before .before in
+    let a = at-part-of .before .before .before .args in
+    let key = at-put .before .before .before .before .before .before .part-of in
+    let copied = at-put .before .before .before .before .copy-run in
+    let marked = at-copy-run2 .before .before .before .before .before .put in
+    let value = at-copy-run2 .before .before .part-of2 in
     entry-written (entryOf (a .text .now) (ruled (a .entry))) (a .at) (key .ensures .names) (value .ensures .names) (copied .ensures) (marked .ensures) (c .before .before .before .before .before .before .copy-run2 .ensures) (c .before .before .put2 .ensures)
 
 pub put-entry-spec : {M : Type 1} → statement M

@@ -33,7 +33,8 @@ part-take-entry-end c = search needs
 
 take-entry-requires : tie.Need-take-entry-requires Inv-loop μ-loop
 take-entry-requires c κs =
-    let entry = c .before .before .before .before .before .before .before .before in
+    let at-loop = c .before .before .before .before in
+    let entry = at-loop .before .before .before .before in
     let i = c .before .before .before .before .loop .inv in
     let e = c .before .before .word-end .ensures in
     omega (arith, length-part (entry .args .question .now) (c .before .before .before .before .loop .at) (c .before .before .word-end .result), e .within, e .behind, i .0 .texts, i .1 .units, i .1 .sameText)
@@ -53,7 +54,8 @@ put-entry-requires c κs =
 
 add-n : tie.Need-add-n Inv-loop μ-loop
 add-n c =
-    let at-loop-test = c .before .before .before .before .before .before .before .before .before .before .before .before .before in
+    let at-match = c .before .before .before .before .before .before in
+    let at-loop-test = at-match .before .before .before .before .before .before .before in
     let at-loop = at-loop-test .before in
     let at-good = at-loop .before .before .before .before in
     omega (arith, at-loop .loop .inv .1 .counts, at-loop-test .loop-test .taken, at-good .good)
@@ -84,13 +86,15 @@ add-to-2 c =
 
 add-at : tie.Need-add-at Inv-loop μ-loop
 add-at c =
-    let at-word-end = c .before .before .before .before .before .before .before .before .before .before .before .before in
+    let at-match = c .before .before .before .before .before .before in
+    let at-word-end = at-match .before .before .before .before .before .before in
     let at-good = at-word-end .before .before .before .before .before .before in
     omega (arith, at-word-end .word-end .ensures .within, at-good .good)
 
 loop-less : tie.Need-loop-less Inv-loop μ-loop
 loop-less c =
-    let at-word-end = c .before .before .before .before .before .before .before .before .before .before .before .before in
+    let at-match = c .before .before .before .before .before .before in
+    let at-word-end = at-match .before .before .before .before .before .before in
     omega (arith, at-word-end .word-end .ensures .within, at-word-end .word-end .ensures .behind)
 
 loop-again : tie.Need-loop-again Inv-loop μ-loop

@@ -94,7 +94,8 @@ same-length-3 c = search needs
 
 returns-4 : tie.Need-returns-4
 returns-4 c =
-    let at-key = c .before .before .before .before .before .before .before .before in
+    let at-take-text2 = c .before .before .before .before in
+    let at-key = at-take-text2 .before .before .before .before in
     let at-take-text = at-key .before .before .before .before in
     let at-if1 = at-take-text .before .before .before in
     let at-find = at-if1 .before in

@@ -52,7 +52,8 @@ enum-known-units c = search needs
 
 cast-t20 : tie.Need-cast-t20
 cast-t20 c =
-    let at-kind = c .before .before .before .before .before .before .before .before .before in
+    let at-take-text = c .before .before .before .before .before in
+    let at-kind = at-take-text .before .before .before .before in
     let at-number-of = at-kind .before .before in
     omega (arith, number-within 4294967295 _ (ap numberSaid (sym (at-kind .kind .given .1)) ∙ at-number-of .number-of .ensures))
 
@@ -77,7 +78,8 @@ same-length-2 c = search needs
 
 returns-4 : tie.Need-returns-4
 returns-4 c =
-    let at-kind = c .before .before .before .before .before .before .before .before in
+    let at-take-text = c .before .before .before .before in
+    let at-kind = at-take-text .before .before .before .before in
     let at-number-of = at-kind .before .before in
     let at-if1 = at-number-of .before .before in
     let at-find = at-if1 .before in

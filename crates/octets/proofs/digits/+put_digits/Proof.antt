@@ -126,7 +126,8 @@ put-digits-put-one-requires-2 : (t : ℕ) → put-digits-lts.Need-put-one-requir
   put-digits.Post,
 ) (put-digits-at t) put-digits.Post
 put-digits-put-one-requires-2 t c κs =
-    let entry = c .before .before .before .before .before .before .before .before in
+    let at-put-digits = c .before .before .before .before in
+    let entry = at-put-digits .before .before .before .before in
     let a = entry .args in
     let p = entry .pre .1 in
     let l : a .number / a .base < a .base ^ suc 62 = fewer (a .base) 62 (a .number) (p .0) (wide (a .base) (a .number) (p .0) (entry .fits .number .fits)) in

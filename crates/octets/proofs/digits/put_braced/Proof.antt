@@ -15,7 +15,8 @@ put-digits-requires c κs = search needs
 
 put-one-requires-2 : tie.Need-put-one-requires-2
 put-one-requires-2 c κs =
-    let entry = c .before .before .before .before .before .before .before .before .before .before in
+    let at-put-one = c .before .before .before .before .before .before .before in
+    let entry = at-put-one .before .before .before in
     omega (arith, c .before .before .before .put-digits .ensures 3 (omega arith) .ends, digits-short 16 3 (entry .args .unit))
 
 same-length : tie.Need-same-length

@@ -25,7 +25,8 @@ after : (c : tie.After-slice-known2 Inv-loop μ-loop)
     (l .loop .i) (c .before .before .before .before .before .before .find-mark .result)
     (c .before .before .before .before .last-backslashes .result) (l .loop .to) (c .before .before .copy-run .last .0)
 after c =
-    let l = c .before .before .before .before .before .before .before .before in
+    let at-find-mark = c .before .before .before .before .before .before in
+    let l = at-find-mark .before .before in
     let a = l .before .before .before .args in
     ran (a .batch) (a .quoted) (a .arg .now) _ (l .loop .i) _ (l .loop .inv .0) (part-is (l .loop .i) (a .arg .now))
     (c .before .before .before .before .before .before .find-mark .ensures)
@@ -60,7 +61,8 @@ copy-run-requires c κs = search needs
 
 add-to : tie.Need-add-to Inv-loop μ-loop
 add-to c =
-    let l = c .before .before .before .before .before .before .before .before in
+    let at-find-mark = c .before .before .before .before .before .before in
+    let l = at-find-mark .before .before in
     omega (arith, l .before .before .before .pre, after c .below)
 
 add-i : tie.Need-add-i Inv-loop μ-loop
@@ -68,7 +70,8 @@ add-i c = omega (arith, after c .inside)
 
 put-end-requires : tie.Need-put-end-requires Inv-loop μ-loop
 put-end-requires c κs =
-    let l = c .before .before .before .before .before .before .before .before .before .before in
+    let at-last-backslashes = c .before .before .before .before .before .before in
+    let l = at-last-backslashes .before .before .before .before in
     let m = after (c .before .before) .ended (c .before .if1 .taken) in
     omega (arith, l .before .before .before .pre, rw length-replicate at (m .counts))
 
@@ -86,7 +89,8 @@ shared-slice-read-put-mark c = omega (arith, after (c .before .before .before) .
 
 put-mark-requires : tie.Need-put-mark-requires Inv-loop μ-loop
 put-mark-requires c κs =
-    let l = c .before .before .before .before .before .before .before .before .before .before .before in
+    let at-last-backslashes = c .before .before .before .before .before .before .before in
+    let l = at-last-backslashes .before .before .before .before in
     let r = after (c .before .before .before) in
     let m = r .marked (omega (arith, r .inside)) in
     omega (arith, l .before .before .before .pre, rw length-append at (m .counts))

@@ -61,7 +61,9 @@ part-read-later-end-2 c = search needs
 
 read-later-requires : tie.Need-read-later-requires Inv-loop μ-loop
 read-later-requires c κs =
-    let line = c .before .before .before .before .before .before .before .before .before .before .before .before .before .before .before .before .before .args .line .now in
+    let at-skip-blanks = c .before .before .before .before .before in
+    let at-read-first = at-skip-blanks .before .before .before .before .before .before .before in
+    let line = at-read-first .before .before .before .before .before .args .line .now in
     let l = c .before .before .before .before .loop in
     (rw (part-is (l .i) line, length-drop) (omega arith), ap (startsWith isBlank) (part-is (l .i) line) ∙ l .inv .clear)
 
@@ -85,16 +87,19 @@ loop-less c = search needs
 
 loop-again : tie.Need-loop-again Inv-loop μ-loop
 loop-again c =
-    let l = c .before .before .before .before .before .before .before .before .before .before .before .before .before .loop in
-    let smaller = c .before .before .before .before .before .before .before .before .before .before .before .smaller in
-    let took = c .before .before .before .before .before .before .before .before .read-later in
+    let at-put-span2 = c .before .before .before .before in
+    let at-smaller = at-put-span2 .before .before .before .before .before .before .before in
+    let l = at-smaller .before .before .loop in
+    let smaller = at-put-span2 .before .before .before .before .before .before .before .smaller in
+    let took = at-put-span2 .before .before .before .before .read-later in
     let from = smaller .result in
     Y.turn (l .inv) from _ (took .ensures) (part-is (l .i) _) (part-is from (l .text)) (back-is from (l .text) _) (smaller .ensures)
     (c .before .before .before .before .put-span2 .ensures) (c .skip-blanks2 .ensures .0) (c .skip-blanks2 .ensures .1)
 
 same-length : tie.Need-same-length Inv-loop μ-loop
 same-length c =
-    let m = c .before .before .before .before .before .before .before .before .before .read-first in
+    let at-put-span = c .before .before .before .before .before in
+    let m = at-put-span .before .before .before .before .read-first in
     Y.text-length (c .before .loop .inv) ∙ m .kept .1 .0
 
 same-length-2 : tie.Need-same-length-2 Inv-loop μ-loop
@@ -102,7 +107,8 @@ same-length-2 c = Y.spans-length (c .before .loop .inv) ∙ c .before .before .b
 
 returns : tie.Need-returns Inv-loop μ-loop
 returns c =
-    let m = c .before .before .before .before .before .before .before .before .before .read-first in
+    let at-put-span = c .before .before .before .before .before in
+    let m = at-put-span .before .before .before .before .read-first in
     Y.finishes _ (m .ensures) (c .before .before .before .before .before .put-span .ensures) (c .before .before .skip-blanks .ensures .0) (c .before .loop .inv) (c .loop-test .left)
 
 pub lay-spec : {M : Type 1} → statement M

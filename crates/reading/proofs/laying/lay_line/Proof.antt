@@ -10,7 +10,8 @@ copy-run-requires c κs = search needs
 
 put-span-requires : tie.Need-put-span-requires
 put-span-requires c κs =
-    let start = c .before .before .before .before .before .before .before .before .before .before in
+    let at-copy-run = c .before .before .before in
+    let start = at-copy-run .before .before .before .before .before .before .before in
     let short = start .pre .1 (c .before .before .before .before .before .if1 .taken) in
     omega arith
 
@@ -22,7 +23,8 @@ same-length-2 c = search needs
 
 returns : tie.Need-returns
 returns c =
-    let empty = c .before .before .before .before .before .before .before .before .if1 .taken in
+    let at-copy-run = c .before .before .before .before .before .before in
+    let empty = at-copy-run .before .before .if1 .taken in
     name-laid _ _ empty (c .before .before .before .before .before .before .copy-run .ensures) (c .before .before .put-span .ensures)
 
 lay-requires : tie.Need-lay-requires

@@ -58,7 +58,8 @@ loop-less c = omega (arith, read-in (c .before .before .before .before), c .befo
 
 loop-again : tie.Need-loop-again Inv-loop μ-loop
 loop-again c =
-    let l = c .before .before .before .before .before .before .before .before .before .before .loop in
+    let at-is-end = c .before .before .before .before .before .before .before in
+    let l = at-is-end .before .before .before .loop in
     T.turn (l .inv) (c .before .before .before .before .read-piece .ensures)
 
 same-length-2 : tie.Need-same-length-2 Inv-loop μ-loop

@@ -28,7 +28,8 @@ same-length c = search needs
 
 returns-3 : tie.Need-returns-3
 returns-3 c =
-    let start = c .before .before .before .before .before .before .before .before .before .before in
+    let at-if1 = c .before .before .before .before .before .before .before in
+    let start = at-if1 .before .before .before in
     let left = c .before .before .before .before .before .before .before .if1 .left in
     doubles _ _ _ _ (not-false (start .args .quoted) left) (c .before .before .before .before .before .before .if2 .left) (start .pre .1) (c .before .before .before .before .if3 .taken) (c .before .before .put .ensures)
 

@@ -14,7 +14,9 @@ use Rattle.reading.proofs.pieces.read_piece.Tie as tie
 
 -- where the function begins
 abbrev start : tie.After-plain-run → tie.Start
-start c = c .before .before .before .before .before .before .before .before
+start c =
+    let at-if1 = c .before .before .before .before in
+    at-if1 .before .before .before .before
 
 -- the run of plain units at i
 run-is : (c : tie.After-plain-run) → RunAt (isPlain true (start c .args .quoted)) (start c .args .rest .now) (start c .args .i) (c .plain-run .result)

@@ -71,7 +71,8 @@ repeat-requires c κs = search needs
 
 add-put : tie.Need-add-put
 add-put c =
-    let b = c .before .before .before .before .before .before .before .before .before in
+    let at-starts-with-quote = c .before .before .before .before .before .before .before in
+    let b = at-starts-with-quote .before .before in
     omega (arith, run-is b, start b .pre)
 
 put-requires : tie.Need-put-requires
@@ -79,12 +80,14 @@ put-requires c κs = search needs
 
 add-t26 : tie.Need-add-t26
 add-t26 c =
-    let b = c .before .before .before .before .before .before .before .before .before .before .before .before in
+    let at-repeat = c .before .before .before .before .before .before .before in
+    let b = at-repeat .before .before .before .before .before in
     omega (arith, run-is b, start b .pre)
 
 add-t27 : tie.Need-add-t27
 add-t27 c =
-    let b = c .before .before .before .before .before .before .before .before .before .before .before .before in
+    let at-repeat = c .before .before .before .before .before .before .before in
+    let b = at-repeat .before .before .before .before .before in
     omega (arith, run-is b, start b .pre)
 
 same-length : tie.Need-same-length
@@ -92,9 +95,10 @@ same-length c = search needs
 
 returns : tie.Need-returns
 returns c =
-    let b = c .before .before .before .before .before .before .before .before .before .before .before .before in
-    let q = c .before .before .before .before .before .before .before .before .before .before in
-    let marked = c .before .before .before .before .before .before .before .before .before .if1 .taken in
+    let at-repeat = c .before .before .before .before .before .before .before in
+    let b = at-repeat .before .before .before .before .before in
+    let q = at-repeat .before .before .before in
+    let marked = at-repeat .before .before .if1 .taken in
     let repeated = c .before .before .before .before .before .before .before .repeat in
     escaped _ _ _ _ _ (run-is b .0) (some b) (quote-is q ∙ marked) (c .before .before .before .before .if2 .taken) (repeated .ensures) (c .before .before .put .ensures)
 
@@ -103,7 +107,8 @@ same-length-2 c = search needs
 
 returns-2 : tie.Need-returns-2
 returns-2 c =
-    let b = c .before .before .before .before .before .before .before .before in
+    let at-starts-with-quote = c .before .before .before .before .before .before in
+    let b = at-starts-with-quote .before .before in
     halved _ _ _ _ _ (run-is b .0) (some b) (quote-is (c .before .before .before .before .before .before) ∙ c .before .before .before .before .before .if1 .taken) (c .if2 .left) (c .before .before .before .repeat .ensures)
 
 repeat-requires-2 : tie.Need-repeat-requires-2

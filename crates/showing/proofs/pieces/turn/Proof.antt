@@ -7,7 +7,8 @@ use Rattle.showing.proofs.pieces.turn.Tie as tie
 
 next-unit-requires : tie.Need-next-unit-requires
 next-unit-requires c κs =
-    let at-good = c .before .before .before .before .before .before .before .before in
+    let at-if1 = c .before .before .before in
+    let at-good = at-if1 .before .before .before .before .before in
     let p = at-good .pre in (omega (arith, c .before .if2 .taken, p .fits .units), omega (arith, p .room, at-good .good))
 
 same-length : tie.Need-same-length
@@ -21,12 +22,14 @@ returns c =
 
 span-at-requires : tie.Need-span-at-requires
 span-at-requires c κs =
-    let entry = c .before .before .before .before .before .before .before .before .before in
+    let at-if1 = c .before .before .before .before in
+    let entry = at-if1 .before .before .before .before .before in
     let p = entry .pre in omega (arith, c .if3 .taken, p .fits .table)
 
 next-text-requires : tie.Need-next-text-requires
 next-text-requires c κs =
-    let at-good = c .before .before .before .before .before .before .before .before .before .before .before in
+    let at-if1 = c .before .before .before .before .before .before in
+    let at-good = at-if1 .before .before .before .before .before in
     let p = at-good .pre in (c .before .before .if3 .taken, omega (arith, p .room, at-good .good))
 
 same-length-2 : tie.Need-same-length-2
@@ -42,7 +45,8 @@ returns-2 c =
 
 next-number-requires : tie.Need-next-number-requires
 next-number-requires c κs =
-    let at-good = c .before .before .before .before .before .before .before .before .before .before .before .before in
+    let at-if1 = c .before .before .before .before .before .before .before in
+    let at-good = at-if1 .before .before .before .before .before in
     let p = at-good .pre in (omega (arith, c .before .if4 .taken, p .fits .list), omega (arith, p .room, at-good .good))
 
 same-length-3 : tie.Need-same-length-3
@@ -58,7 +62,8 @@ returns-3 c =
 
 finish-requires : tie.Need-finish-requires
 finish-requires c κs =
-    let at-good = c .before .before .before .before .before .before .before .before .before .before .before .before in
+    let at-if1 = c .before .before .before .before .before .before .before in
+    let at-good = at-if1 .before .before .before .before .before in
     let p = at-good .pre in omega (arith, p .room, at-good .good)
 
 same-length-4 : tie.Need-same-length-4
@@ -82,7 +87,8 @@ same-length-5 c = search needs
 
 returns-5 : tie.Need-returns-5
 returns-5 c =
-    let entry = c .before .before .before .before .before .before .before .before .before in
+    let at-if1 = c .before .before .before .before in
+    let entry = at-if1 .before .before .before .before .before in
     front-turn _ _ _ (entry .pre) (c .before .before .before .before .if1 .left) (c .before .before .begin .ensures)
 
 pub turn-spec : {M : Type 1} → statement M

@@ -100,8 +100,10 @@ is-none-requires-8 c κs = search needs
 
 returns : tie.Need-returns
 returns c =
-    let s = c .before .before .before .before .before .before .before .before .before .before .before .before .before .before .before .before .before .args in
-    let u = c .before .before .before .before .before .before .before .before in
+    let at-is-none5 = c .before .before .before .before .before .before in
+    let at-is-none2 = at-is-none5 .before .before .before .before .before .before in
+    let s = at-is-none2 .before .before .before .before .before .args in
+    let u = at-is-none5 .before .before in
     eight-is (λ x. flip (isOneOf (s .a) (s .b) (s .c) (s .d) x)) (s .units .now) (s .at)
     (u .before .before .before .before .before .before .is-none .ensures) (u .before .before .before .before .is-none2 .ensures) (u .before .before .is-none3 .ensures) (u .is-none4 .ensures)
     (c .before .before .before .before .before .before .is-none5 .ensures) (c .before .before .before .before .is-none6 .ensures) (c .before .before .is-none7 .ensures) (c .is-none8 .ensures)
