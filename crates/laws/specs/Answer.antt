@@ -8,11 +8,13 @@ use Rattle.rules.specs.declared.Refusal.{Refusal}
 use Rattle.rules.specs.declared.Refusal.the-variants as Refusal
 use Rattle.rules.specs.declared.Built.{Built}
 use Rattle.rules.specs.declared.Built.the-variants as Built
+use Rattle.rules.specs.declared.Filled.{Filled}
+use Rattle.rules.specs.declared.Filled.the-variants as Filled
 use Rattle.rules.specs.declared.Parsed.{Parsed}
 use Rattle.rules.specs.declared.Parsed.the-variants as Parsed
 use Rattle.rules.specs.Choice.{pick}
 use Rattle.rules.specs.Outcome.{Outcome}
-use Rattle.rules.specs.Answer.{Said, refusalSaid, builtSaid, parsedSaid, Answered, Read}
+use Rattle.rules.specs.Answer.{Said, refusalSaid, builtSaid, filledSaid, parsedSaid, Answered, Read}
 
 -- ---- back from what is said to the answer
 
@@ -21,7 +23,7 @@ unfoldable refusalOf : ℕ → ℕ → Refusal
 refusalOf number place =
     pick (eqb number 1) (Refusal.Record place)
     (pick (eqb number 2) Refusal.Length
-    (pick (eqb number 3) Refusal.Spans
+    (pick (eqb number 3) Refusal.Places
     (pick (eqb number 4) Refusal.Room
     (pick (eqb number 5) (Refusal.Nul place) (pick (eqb number 6) (Refusal.LineBreak place) Refusal.Script)))))
 
@@ -29,15 +31,19 @@ refusal-back : (r : Refusal) → refusalOf (refusalSaid r .number) (refusalSaid 
 unfolding refusalOf
 refusal-back (Refusal.Record place) = refl
 refusal-back Refusal.Length = refl
-refusal-back Refusal.Spans = refl
+refusal-back Refusal.Places = refl
 refusal-back Refusal.Room = refl
 refusal-back (Refusal.Nul place) = refl
 refusal-back (Refusal.LineBreak place) = refl
 refusal-back Refusal.Script = refl
 
--- the writer's answer that says so
+-- the answer of a builder of lines that says so
 unfoldable builtOf : Said → Built
 builtOf s = pick (eqb (s .number) 0) (Built.Line (s .units)) (Built.Refused (refusalOf (s .number) (s .place)))
+
+-- the answer of a writer of other units that says so
+unfoldable filledOf : Said → Filled
+filledOf s = pick (eqb (s .number) 0) (Filled.Units (s .units)) (Filled.Refused (refusalOf (s .number) (s .place)))
 
 -- the reader's answer that says so
 unfoldable parsedOf : Said → Parsed
@@ -47,7 +53,7 @@ parsedOf s = pick (eqb (s .number) 0) (Parsed.Arguments (s .arguments) (s .units
 pub some-number : (r : Refusal) → eqb (refusalSaid r .number) 0 ≡ false
 some-number (Refusal.Record place) = refl
 some-number Refusal.Length = refl
-some-number Refusal.Spans = refl
+some-number Refusal.Places = refl
 some-number Refusal.Room = refl
 some-number (Refusal.Nul place) = refl
 some-number (Refusal.LineBreak place) = refl
@@ -57,6 +63,11 @@ built-back : (r : Built) → builtOf (builtSaid r) ≡ r
 unfolding builtOf
 built-back (Built.Line units) = refl
 built-back (Built.Refused r) = rw (some-number r, refusal-back r)
+
+filled-back : (r : Filled) → filledOf (filledSaid r) ≡ r
+unfolding filledOf
+filled-back (Filled.Units units) = refl
+filled-back (Filled.Refused r) = rw (some-number r, refusal-back r)
 
 parsed-back : (r : Parsed) → parsedOf (parsedSaid r) ≡ r
 unfolding parsedOf
@@ -69,23 +80,36 @@ parsed-back (Parsed.Refused r) = rw (some-number r, refusal-back r)
 pub refusal-one : (r r′ : Refusal) → refusalSaid r ≡ refusalSaid r′ → r ≡ r′
 refusal-one r r′ e = sym (refusal-back r) ∙ ap (λ (s : Said). refusalOf (s .number) (s .place)) e ∙ refusal-back r′
 
--- two answers of a writer that say the same are one
-pub built-one : (r r′ : Built) → builtSaid r ≡ builtSaid r′ → r ≡ r′
-built-one r r′ e = sym (built-back r) ∙ ap builtOf e ∙ built-back r′
+-- what is said of answers of a kind names the answer: two that say the same are one
+abbrev pub Telling : {A : Type 0} → (A → Said) → Type 0
+Telling {A} said = (r r′ : A) → said r ≡ said r′ → r ≡ r′
 
--- two answers of the reader that say the same are one
-pub parsed-one : (r r′ : Parsed) → parsedSaid r ≡ parsedSaid r′ → r ≡ r′
-parsed-one r r′ e = sym (parsed-back r) ∙ ap parsedOf e ∙ parsed-back r′
+-- an answer that is found again from what it says is named by it
+named : {A : Type 0} {said : A → Said} (back : Said → A) → ((r : A) → back (said r) ≡ r) → Telling said
+named back found r r′ e = sym (found r) ∙ ap back e ∙ found r′
+
+-- so it is for lines
+pub built-one : Telling builtSaid
+built-one = named builtOf built-back
+
+-- so it is for other units
+pub filled-one : Telling filledSaid
+filled-one = named filledOf filled-back
+
+-- so it is for the reader
+pub parsed-one : Telling parsedSaid
+parsed-one = named parsedOf parsed-back
 
 -- ---- a contract allows one answer and one content of lent memory
 
 -- any two answers of a writer to one outcome, and what they leave of one output, are equal
-abbrev pub OneAnswer : Outcome (List ℕ) → List ℕ → Type 0
-OneAnswer o before = (r r′ : Built) (after after′ : List ℕ) → Answered o r before after → Answered o r′ before after′ → (r ≡ r′) × (after ≡ after′)
+abbrev pub OneAnswer : {A : Type 0} → (A → Said) → Outcome (List ℕ) → List ℕ → Type 0
+OneAnswer {A} said o before =
+    (r r′ : A) (after after′ : List ℕ) → Answered o (said r) before after → Answered o (said r′) before after′ → (r ≡ r′) × (after ≡ after′)
 
--- a writer's contract allows one, whatever the outcome
-pub answered-once : (o : Outcome (List ℕ)) (before : List ℕ) → OneAnswer o before
-answered-once o before r r′ after after′ a b = (built-one r r′ (a .says ∙ sym (b .says)), a .leaves ∙ sym (b .leaves))
+-- a writer's contract allows one, whatever the outcome, where what is said names the answer
+pub answered-once : {A : Type 0} {said : A → Said} → Telling said → (o : Outcome (List ℕ)) (before : List ℕ) → OneAnswer said o before
+answered-once tells o before r r′ after after′ a b = (tells r r′ (a .says ∙ sym (b .says)), a .leaves ∙ sym (b .leaves))
 
 -- any two answers of the reader to one outcome, and what they leave of one output and of one table, are equal
 abbrev pub OneReading : Outcome (List (List ℕ)) → List ℕ → List ℕ → Type 0

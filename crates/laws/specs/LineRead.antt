@@ -20,23 +20,23 @@ isRaw a = flip (isRegular (a .kind))
 abbrev pub contents : List Argument → List (List ℕ)
 contents args = map (λ a. a .content) args
 
-behind : (rule : List ℕ → List ℕ) (args : List Argument) → Behind (tail rule args)
-behind rule [] = nothing
-behind rule (a ∷ args) = blank
+behind : (rule : Bool → List ℕ → List ℕ) (force : Bool) (args : List Argument) → Behind (tail rule force args)
+behind rule force [] = nothing
+behind rule force (a ∷ args) = blank
 
-regular-form : (rule : List ℕ → List ℕ) (a : Argument) → isRaw a ≡ false → written rule a ≡ rule (a .content)
-regular-form rule a h = go (isRegular (a .kind)) h
+regular-form : (rule : Bool → List ℕ → List ℕ) (force : Bool) (a : Argument) → isRaw a ≡ false → written rule force a ≡ rule force (a .content)
+regular-form rule force a h = go (isRegular (a .kind)) h
   where
-    go : (b : Bool) → flip b ≡ false → pick b (rule (a .content)) (a .content) ≡ rule (a .content)
+    go : (b : Bool) → flip b ≡ false → pick b (rule force (a .content)) (a .content) ≡ rule force (a .content)
     go true h = refl
     go false h = cc
 
-tail-read : (force : Bool) (args : List Argument) → any isRaw args ≡ false → later between 0 [] (tail (form force) args) ≡ contents args
+tail-read : (force : Bool) (args : List Argument) → any isRaw args ≡ false → later between 0 [] (tail form force args) ≡ contents args
 unfolding later
 tail-read force [] h = refl
 tail-read force (a ∷ args) h =
     let (e, h′) = apart true (isRaw a) (any isRaw args) h in
-    rw (regular-form (form force) a e, form-read force (behind (form force) args), tail-read force args h′)
+    rw (regular-form form force a e, form-read force (behind form force args), tail-read force args h′)
 
 name-read : (p : List ℕ) → any isQuote p ≡ false → {rest : List ℕ} → Behind rest → argument0 true (p ++ quote ∷ rest) ≡ p
 unfolding argument0
@@ -55,5 +55,5 @@ pub line-read : (force : Bool) (program : List ℕ) (args : List Argument) → a
     → arguments (line force program args) ≡ program ∷ contents args
 unfolding arguments line
 line-read force program args h g =
-    let b = behind (form force) args in
-    rw (append-assoc program (quote ∷ []) (tail (form force) args), name-read program h b, after-read program h b, tail-read force args g)
+    let b = behind form force args in
+    rw (append-assoc program (quote ∷ []) (tail form force args), name-read program h b, after-read program h b, tail-read force args g)

@@ -51,13 +51,13 @@ unfolding form
 form-clean force xs h =
     choose Clean (needsQuotes force xs) (joint isNul (escaped true 0 xs) (quote ∷ []) (escaped-clean true xs h 0) refl) (escaped-clean false xs h 0)
 
-argument-clean : (force : Bool) (a : Argument) → Clean (a .content) → Clean (written (form force) a)
+argument-clean : (force : Bool) (a : Argument) → Clean (a .content) → Clean (written form force a)
 argument-clean force a h = choose Clean (isRegular (a .kind)) (form-clean force (a .content) h) h
 
-tail-clean : (force : Bool) (args : List Argument) → Sound nulFinding args → Clean (tail (form force) args)
+tail-clean : (force : Bool) (args : List Argument) → Sound nulFinding args → Clean (tail form force args)
 tail-clean force [] s = refl
 tail-clean force (a ∷ args) s =
-    joint isNul (written (form force) a) _ (argument-clean force a (passed-once 5 (any isNul (a .content)) (s .0))) (tail-clean force args (s .1))
+    joint isNul (written form force a) _ (argument-clean force a (passed-once 5 (any isNul (a .content)) (s .0))) (tail-clean force args (s .1))
 
 -- with no NUL in the program and none in an argument, raw ones too, the line holds none
 pub line-clean : (force : Bool) (program : List ℕ) (args : List Argument) → Clean program → Sound nulFinding args → Clean (line force program args)

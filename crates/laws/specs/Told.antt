@@ -7,11 +7,10 @@ use mathlib.Core.List.{List}
 use lib.ListN.{length}
 use lib.Dec.{eqb}
 use Rattle.rules.specs.declared.Refusal.{Refusal}
-use Rattle.rules.specs.declared.Built.the-variants as Built
 use Rattle.rules.specs.declared.Parsed.the-variants as Parsed
 use Rattle.rules.specs.Outcome.{Outcome, done, refused}
 use Rattle.rules.specs.Reading.{joined, spansOf, placesOf}
-use Rattle.rules.specs.Answer.{Said, refusal, gave, refusalSaid, Answered, Read}
+use Rattle.rules.specs.Answer.{Said, refusal, wrote, gave, refusalSaid, Answered, Read}
 use Rattle.laws.specs.Answer.{some-number}
 use Rattle.laws.specs.Front.{Front, over-front}
 use Rattle.laws.specs.Span.{spans-length}
@@ -34,7 +33,7 @@ no-result q e =
     absurd (omega arith)
 
 -- a writer that answers with a refusal leaves the output as it was
-pub told-refused : (o : Outcome (List ℕ)) {q : Refusal} {before after : List ℕ} → Answered o (Built.Refused q) before after
+pub told-refused : (o : Outcome (List ℕ)) {q : Refusal} {before after : List ℕ} → Answered o (refusalSaid q) before after
     → Refusing o q × (after ≡ before)
 told-refused (done result) {q} a = no-result q (a .says)
 told-refused (refused number place) a = (record { number = number; place = place; decided = refl; said = a .says }, a .leaves)
@@ -63,7 +62,7 @@ pub record Gave (o : Outcome (List (List ℕ))) (count units : ℕ) (text text�
 
 -- a writer that answers with a count wrote so many units, where no refusal has the number 0 and a result has room
 pub told-written : (o : Outcome (List ℕ)) {n : ℕ} {before after : List ℕ} → ((place : ℕ) → ¬ (o ≡ refused 0 place))
-    → ((result : List ℕ) → o ≡ done result → length result ≤ length before) → Answered o (Built.Line n) before after → Wrote o n before after
+    → ((result : List ℕ) → o ≡ done result → length result ≤ length before) → Answered o (wrote n) before after → Wrote o n before after
 told-written (done result) {n} {before} never fits a =
     let e : n ≡ length result = ap (λ (s : Said). s .units) (a .says) in
     record { result = result; made = refl; lies = rw (e, a .leaves) (over-front before result (fits result refl)) }

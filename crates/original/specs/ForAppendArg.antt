@@ -72,7 +72,7 @@ raw force cmd xs = rw (plain cmd 0 xs) (ensured-says (any isNul xs) xs refl)
 
 -- An argument with no NUL is appended in its form, and one with a NUL is refused by 5, whatever it is and whether quotes are forced or not.
 pub append-arg-same : (force : Bool) (cmd : List ℕ) (a : Argument)
-    → rust-says (append-arg cmd (arg-of a) force) ≡ finding-says (nulFinding a) (cmd ++ written (form force) a)
+    → rust-says (append-arg cmd (arg-of a) force) ≡ finding-says (nulFinding a) (cmd ++ written form force a)
 append-arg-same force cmd a = go (isRegular (a .kind))
   where
     go : (r : Bool)

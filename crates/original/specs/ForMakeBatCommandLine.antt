@@ -12,7 +12,7 @@ use Rattle.rules.specs.Unit.{isNul, isQuote, isLineBreak, quote, space}
 use Rattle.rules.specs.Outcome.{wrongIf, firstFault, refuse, unless, limited}
 use Rattle.rules.specs.Record.{Argument, isRegular, raw, argumentsOf}
 use Rattle.rules.specs.Batch.{endsInBackslash, batchForm}
-use Rattle.rules.specs.Building.{written, tail, lineLimit, scriptOf, batchFront, batchLine, isNoScript, nulFinding, batchFinding, batchCommandLine}
+use Rattle.rules.specs.Building.{written, tail, batchLimit, scriptOf, batchFront, batchLine, isNoScript, nulFinding, batchFinding, batchCommandLine}
 use Rattle.laws.specs.Choice.{apart}
 use Rattle.original.specs.Shims.{_==Some_, contains, last, before, strip-suffix, unwrap-or, Result, Ok, Err, _>>=_}
 use Rattle.original.specs.Wtf8.{as-encoded-bytes}
@@ -97,7 +97,7 @@ module _ (call : Append)
 
 -- an argument is appended, or refused by 6 or, after that, by 5
 match-arg-says : (force : Bool) (cmd : List ℕ) (a : Argument)
-    → rust-says (match-arg append-bat-arg cmd (arg-of a) force) ≡ finding-says (batchFinding a) (cmd ++ written (batchForm force) a)
+    → rust-says (match-arg append-bat-arg cmd (arg-of a) force) ≡ finding-says (batchFinding a) (cmd ++ written batchForm force a)
 unfolding match-arg
 match-arg-says force cmd a = go (isRegular (a .kind)) refl (any isLineBreak (a .content)) refl
   where
@@ -112,7 +112,7 @@ match-arg-says force cmd a = go (isRegular (a .kind)) refl (any isLineBreak (a .
 
 -- the loop appends a space and a form for each argument, up to the first at fault
 loop : (force : Bool)
-    → Loop (λ cmd args. for-bat-args append-bat-arg cmd (args-of args) force) batchFinding (λ a. space ∷ written (batchForm force) a) (tail (batchForm force))
+    → Loop (λ cmd args. for-bat-args append-bat-arg cmd (args-of args) force) batchFinding (λ a. space ∷ written batchForm force a) (tail batchForm force)
 unfolding for-bat-args
 loop force =
     record {
@@ -167,7 +167,7 @@ make-bat-command-line-says force script args = go (isNoScript script) refl
     go false e =
         rw (no-script-same script, e)
         (says-then (λ cmd. cmd ++ quote ∷ []) (for-bat-args append-bat-arg (start (unwrap-or (strip-suffix script 0) script)) (args-of args) force)
-        (firstFault batchFinding args) (start (scriptOf script) ++ tail (batchForm force) args)
+        (firstFault batchFinding args) (start (scriptOf script) ++ tail batchForm force args)
         (rw (script-same script) (loop-says (loop force) 1 (start (scriptOf script)) args))
         ∙ simp append-assoc)
 
@@ -180,13 +180,13 @@ unfolding batchCommandLine
 make-bat-command-line-same force script records text room h clean =
     let args = argumentsOf text records in
     let whole = batchLine force (scriptOf script) args in
-    let rest = unless (firstFault batchFinding args) (limited lineLimit room whole) in
+    let rest = unless (firstFault batchFinding args) (limited batchLimit room whole) in
     let e = arguments-sound text records (refuse 7 (isNoScript script) (refuse 5 (any isNul (scriptOf script)) rest)) h in
     rw (e, clean) (make-bat-command-line-says force script args ∙ go args (isNoScript script) (rw (e, clean) at h))
   where
     go : (args : List Argument) (b : Bool)
-        → in-domain (refuse 7 b (unless (firstFault batchFinding args) (limited lineLimit room (batchLine force (scriptOf script) args)))) ≡ true
+        → in-domain (refuse 7 b (unless (firstFault batchFinding args) (limited batchLimit room (batchLine force (scriptOf script) args)))) ≡ true
         → pick b (refuses 7) (fault-says (firstFault batchFinding args) (batchLine force (scriptOf script) args))
-        ≡ port-says (refuse 7 b (unless (firstFault batchFinding args) (limited lineLimit room (batchLine force (scriptOf script) args))))
+        ≡ port-says (refuse 7 b (unless (firstFault batchFinding args) (limited batchLimit room (batchLine force (scriptOf script) args))))
     go args true h = refl
-    go args false h = sym (unless-says (firstFault batchFinding args) lineLimit room (batchLine force (scriptOf script) args) h)
+    go args false h = sym (unless-says (firstFault batchFinding args) batchLimit room (batchLine force (scriptOf script) args) h)

@@ -17,7 +17,7 @@ use Rattle.original.specs.Loops.{says-then, Loop, loop-says}
 use Rattle.original.specs.ForAppendArg.{append-arg-same}
 
 -- the loop appends a space and a form for each argument, up to the first with a NUL
-loop : (force : Bool) → Loop (λ cmd args. for-args cmd (args-of args) force) nulFinding (λ a. space ∷ written (form force) a) (tail (form force))
+loop : (force : Bool) → Loop (λ cmd args. for-args cmd (args-of args) force) nulFinding (λ a. space ∷ written form force a) (tail form force)
 unfolding for-args
 loop force =
     record {

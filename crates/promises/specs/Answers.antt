@@ -5,12 +5,10 @@ use mathlib.Core.Bool.{Bool}
 use mathlib.Core.List.{List, [], _∷_}
 use lib.ListN.{length}
 use Rattle.rules.specs.declared.Refusal.{Refusal}
-use Rattle.rules.specs.declared.Built.{Built}
-use Rattle.rules.specs.declared.Built.the-variants as Built
 use Rattle.rules.specs.declared.Parsed.{Parsed}
 use Rattle.rules.specs.declared.Parsed.the-variants as Parsed
 use Rattle.rules.specs.Outcome.{Outcome, refused}
-use Rattle.rules.specs.Answer.{refusal, builtSaid, parsedSaid, Answered, Read}
+use Rattle.rules.specs.Answer.{Said, refusal, wrote, refusalSaid, parsedSaid, Answered, Read}
 use Rattle.rules.specs.Building.{commandLine, batchCommandLine}
 use Rattle.rules.specs.Block.{environmentBlock}
 use Rattle.rules.specs.Status.{statusOutcome}
@@ -26,8 +24,8 @@ use Rattle.promises.specs.Reading.{read-only, read-given}
 -- ---- refusals, whichever the entry point
 
 -- where a writer's outcome is a refusal, the answer says its number and place with counts 0, and no lent unit changes
-pub refusal-keeps : {number place : ℕ} {r : Built} {before after : List ℕ} → Answered (refused number place) r before after
-    → (builtSaid r ≡ refusal number place) × (after ≡ before)
+pub refusal-keeps : {number place : ℕ} {said : Said} {before after : List ℕ} → Answered (refused number place) said before after
+    → (said ≡ refusal number place) × (after ≡ before)
 refusal-keeps a = (a .says, a .leaves)
 
 -- where the reader's outcome is a refusal, the answer says it with counts 0, and no lent unit and no table place changes
@@ -36,7 +34,7 @@ pub read-refusal-keeps : {number place : ℕ} {r : Parsed} {text text′ spans s
 read-refusal-keeps a = (a .says, a .leaves, a .tabulates)
 
 -- a writer that answers with a refusal was refused by that number at that place, and no lent unit has changed
-pub refused-answer : {o : Outcome (List ℕ)} {q : Refusal} {before after : List ℕ} → Answered o (Built.Refused q) before after
+pub refused-answer : {o : Outcome (List ℕ)} {q : Refusal} {before after : List ℕ} → Answered o (refusalSaid q) before after
     → Refusing o q × (after ≡ before)
 refused-answer {o} a = told-refused o a
 
@@ -50,7 +48,7 @@ read-refused-answer {o} a = told-unread o a
 module _ {n : ℕ} {before after : List ℕ} where
   -- make_command_line: the answer counts the units of the line, which is the front of the output; the rest is kept
   pub line-answer : (force : Bool) (program records text : List ℕ) → let o = commandLine force program records text (length before) in
-      Answered o (Built.Line n) before after → Wrote o n before after
+      Answered o (wrote n) before after → Wrote o n before after
   line-answer force program records text a =
       told-written _
       (λ place e. unnumbered (5 ∷ 2 ∷ 4 ∷ []) (1 ∷ 5 ∷ []) place refl refl (line-only force program records text (length before) 0 place e))
@@ -59,7 +57,7 @@ module _ {n : ℕ} {before after : List ℕ} where
 
   -- make_bat_command_line: the answer counts the units of the batch line, which is the front of the output; the rest is kept
   pub batch-answer : (force : Bool) (script records text : List ℕ) → let o = batchCommandLine force script records text (length before) in
-      Answered o (Built.Line n) before after → Wrote o n before after
+      Answered o (wrote n) before after → Wrote o n before after
   batch-answer force script records text a =
       told-written _
       (λ place e. unnumbered (7 ∷ 5 ∷ 2 ∷ 4 ∷ []) (1 ∷ 6 ∷ 5 ∷ []) place refl refl (batch-only force script records text (length before) 0 place e))
@@ -68,7 +66,7 @@ module _ {n : ℕ} {before after : List ℕ} where
 
   -- make_envp: the answer counts the units of the block, which is the front of the output; the rest is kept
   pub block-answer : (records text : List ℕ) → let o = environmentBlock records text (length before) in
-      Answered o (Built.Line n) before after → Wrote o n before after
+      Answered o (wrote n) before after → Wrote o n before after
   block-answer records text a =
       told-written _
       (λ place e. unnumbered (2 ∷ 4 ∷ []) (1 ∷ 5 ∷ []) place refl refl (block-only records text (length before) 0 place e))
@@ -76,7 +74,7 @@ module _ {n : ℕ} {before after : List ℕ} where
       a
 
   -- status_text: the answer counts the units of the text, which is the front of the output; the rest is kept
-  pub status-answer : (status : ℕ) → let o = statusOutcome status (length before) in Answered o (Built.Line n) before after → Wrote o n before after
+  pub status-answer : (status : ℕ) → let o = statusOutcome status (length before) in Answered o (wrote n) before after → Wrote o n before after
   status-answer status a =
       told-written _
       (λ place e. unnumbered (4 ∷ []) [] place refl refl (status-only status (length before) 0 place e))

@@ -5,7 +5,6 @@ use mathlib.Core.Path.{_≡_, _∙_}
 use mathlib.Core.Bool.{Bool, false}
 use mathlib.Core.List.{List, [], _∷_}
 use lib.ListN.{length, getD, take}
-use Rattle.rules.specs.declared.Built.the-variants as Built
 use Rattle.rules.specs.declared.Parsed.{Parsed}
 use Rattle.rules.specs.declared.Parsed.the-variants as Parsed
 use Rattle.rules.specs.Choice.{any}
@@ -14,7 +13,7 @@ use Rattle.rules.specs.Outcome.{done}
 use Rattle.rules.specs.Record.{argumentsOf}
 use Rattle.rules.specs.Building.{commandLine}
 use Rattle.rules.specs.Reading.{joined, placesOf, reading, argumentPart}
-use Rattle.rules.specs.Answer.{Answered, Read}
+use Rattle.rules.specs.Answer.{wrote, Answered, Read}
 use Rattle.laws.specs.LineRead.{isRaw, contents}
 use Rattle.laws.specs.Answer.{parsed-one}
 use Rattle.laws.specs.Span.{part-given, part-stale, part-missing}
@@ -54,7 +53,7 @@ pub record Taken (r : Parsed) (text spans : List ℕ) (list : List (List ℕ)) :
   pub each : (i : ℕ) → i < length list → argumentPart text spans i ≡ getD list i []
 
 module _ (force : Bool) (program records text : List ℕ) {n : ℕ} {out out′ : List ℕ}
-    (b : Answered (commandLine force program records text (length out)) (Built.Line n) out out′)
+    (b : Answered (commandLine force program records text (length out)) (wrote n) out out′)
     (unquoted : any isQuote program ≡ false) (regular : any isRaw (argumentsOf text records) ≡ false)
     (executable : List ℕ) {r : Parsed} {texts texts′ spans spans′ : List ℕ}
     (c : Read (reading executable (take n out′) (length texts) (length spans)) r texts texts′ spans spans′) where

@@ -10,7 +10,7 @@ use Rattle.rules.specs.Choice.{any}
 use Rattle.rules.specs.Unit.{isNul}
 use Rattle.rules.specs.Outcome.{Outcome, done, refused}
 use Rattle.rules.specs.Record.{Argument, argumentFault, argumentsOf}
-use Rattle.rules.specs.Building.{lineLimit, scriptOf, batchLine, isNoScript, batchFinding, batchCommandLine}
+use Rattle.rules.specs.Building.{batchLimit, scriptOf, batchLine, isNoScript, batchFinding, batchCommandLine}
 use Rattle.laws.specs.Fault.{Sound, FirstWrong}
 use Rattle.laws.specs.Finding.{batch-finds}
 use Rattle.laws.specs.Order.{_and_, given, Step, test, most, search-all, only, accepted, refused-test, refused-most, refused-search}
@@ -53,7 +53,7 @@ module _ (force : Bool) (script records text : List ℕ) (room : ℕ) where
 
   -- 2 for the whole line
   abbrev two : Step
-  two = most 2 lineLimit (length whole)
+  two = most 2 batchLimit (length whole)
 
   -- 4 for the whole line
   abbrev four : Step
@@ -93,17 +93,17 @@ module _ (force : Bool) (script records text : List ℕ) (room : ℕ) where
   batch-argument-nul i = refused-search whole 5 i (one ∷ seven ∷ five ∷ []) _ _ (two ∷ four ∷ []) refl refl
 
   -- 2: the line has more units than the limit
-  pub batch-length : (built ≡ refused 2 0) ↔ SoundScript (Sound batchFinding args and (lineLimit < length whole))
+  pub batch-length : (built ≡ refused 2 0) ↔ SoundScript (Sound batchFinding args and (batchLimit < length whole))
   unfolding batchCommandLine argumentFault
   batch-length = refused-most whole 2 (one ∷ seven ∷ five ∷ units ∷ []) _ _ (four ∷ []) refl refl
 
   -- 4: the output has fewer units than the line
-  pub batch-room : (built ≡ refused 4 0) ↔ SoundScript (Sound batchFinding args and (length whole ≤ lineLimit) and (room < length whole))
+  pub batch-room : (built ≡ refused 4 0) ↔ SoundScript (Sound batchFinding args and (length whole ≤ batchLimit) and (room < length whole))
   unfolding batchCommandLine argumentFault
   batch-room = refused-most whole 4 (one ∷ seven ∷ five ∷ units ∷ two ∷ []) _ _ [] refl refl
 
   -- the line is built where nothing of this applies
   pub batch-built : (result : List ℕ) → (built ≡ done result)
-      ↔ SoundScript (Sound batchFinding args and (length whole ≤ lineLimit) and (length whole ≤ room) and (whole ≡ result))
+      ↔ SoundScript (Sound batchFinding args and (length whole ≤ batchLimit) and (length whole ≤ room) and (whole ≡ result))
   unfolding batchCommandLine argumentFault
   batch-built result = accepted whole (one ∷ seven ∷ five ∷ units ∷ two ∷ four ∷ []) result

@@ -7,6 +7,8 @@ use Rattle.rules.specs.declared.Refusal.{Refusal}
 use Rattle.rules.specs.declared.Refusal.the-variants as Refusal
 use Rattle.rules.specs.declared.Built.{Built}
 use Rattle.rules.specs.declared.Built.the-variants as Built
+use Rattle.rules.specs.declared.Filled.{Filled}
+use Rattle.rules.specs.declared.Filled.the-variants as Filled
 use Rattle.rules.specs.declared.Parsed.{Parsed}
 use Rattle.rules.specs.declared.Parsed.the-variants as Parsed
 use Rattle.rules.specs.Outcome.{Outcome, done, refused, filled}
@@ -49,16 +51,21 @@ argumentsSaid (refused number place) = refusal number place
 abbrev pub refusalSaid : Refusal → Said
 refusalSaid (Refusal.Record place) = refusal 1 place
 refusalSaid Refusal.Length = refusal 2 0
-refusalSaid Refusal.Spans = refusal 3 0
+refusalSaid Refusal.Places = refusal 3 0
 refusalSaid Refusal.Room = refusal 4 0
 refusalSaid (Refusal.Nul place) = refusal 5 place
 refusalSaid (Refusal.LineBreak place) = refusal 6 place
 refusalSaid Refusal.Script = refusal 7 0
 
--- the answer of an entry point that writes units
+-- the answer of a builder of lines
 abbrev pub builtSaid : Built → Said
 builtSaid (Built.Line units) = wrote units
 builtSaid (Built.Refused r) = refusalSaid r
+
+-- the answer of an entry point that merely writes units
+abbrev pub filledSaid : Filled → Said
+filledSaid (Filled.Units units) = wrote units
+filledSaid (Filled.Refused r) = refusalSaid r
 
 -- the answer of the reader
 abbrev pub parsedSaid : Parsed → Said
@@ -67,9 +74,9 @@ parsedSaid (Parsed.Refused r) = refusalSaid r
 
 -- ---- contracts
 
--- the answer says what the outcome says, and the output holds afterwards what the outcome leaves in it
-pub record Answered (o : Outcome (List ℕ)) (r : Built) (before after : List ℕ) : Type 0 where
-  pub says : builtSaid r ≡ unitsSaid o
+-- what is said of an answer is what the outcome says, and the output holds afterwards what the outcome leaves in it
+pub record Answered (o : Outcome (List ℕ)) (said : Said) (before after : List ℕ) : Type 0 where
+  pub says : said ≡ unitsSaid o
   pub leaves : after ≡ filled before o
 
 -- the texts and the spans of an outcome of reading

@@ -1,6 +1,6 @@
 -- Ordinary lines and batch lines from a list of argument records. Assumes nothing.
 use Prim.Native.Nat.{ℕ}
-use mathlib.Core.Bool.{Bool}
+use mathlib.Core.Bool.{Bool, true, false}
 use mathlib.Core.List.{List, [], _∷_, _++_}
 use Rattle.rules.specs.Choice.{pick, either, both, any}
 use Rattle.rules.specs.Unit.{units, isNul, isLineBreak, isQuote, quote, space}
@@ -13,21 +13,21 @@ use Rattle.rules.specs.Batch.{batchForm, endsInBackslash}
 unfoldable pub lineLimit : ℕ
 lineLimit = 32767
 
--- an argument as it is written: "Raw: the units unchanged", a regular one by its rule
-abbrev pub written : (List ℕ → List ℕ) → Argument → List ℕ
-written rule a = pick (isRegular (a .kind)) (rule (a .content)) (a .content)
+-- an argument as it is written: "Raw: the units unchanged", a regular one by its rule, which is told whether quotes are forced
+abbrev pub written : (Bool → List ℕ → List ℕ) → Bool → Argument → List ℕ
+written rule force a = pick (isRegular (a .kind)) (rule force (a .content)) (a .content)
 
 -- "for each argument one space and its form"
-abbrev pub tail : (List ℕ → List ℕ) → List Argument → List ℕ
-tail rule [] = []
-tail rule (a ∷ more) = space ∷ written rule a ++ tail rule more
+abbrev pub tail : (Bool → List ℕ → List ℕ) → Bool → List Argument → List ℕ
+tail rule force [] = []
+tail rule force (a ∷ more) = space ∷ written rule force a ++ tail rule force more
 
 -- ---- an ordinary line
 
 -- "The line is quote, program, quote, then for each argument one space and its form. A quote in the program is written as it is."
 unfoldable pub line : Bool → List ℕ → List Argument → List ℕ
 unfolding form
-line force program args = enclosed program ++ tail (form force) args
+line force program args = enclosed program ++ tail form force args
 
 -- 5: NUL in an argument
 abbrev pub nulFinding : Argument → Finding
@@ -51,6 +51,11 @@ scriptOf [] = []
 scriptOf (x ∷ []) = pick (isNul x) [] (x ∷ [])
 scriptOf (x ∷ y ∷ ys) = x ∷ scriptOf (y ∷ ys)
 
+-- the most units of a batch line that is built: the limit of every line
+unfoldable pub batchLimit : ℕ
+unfolding lineLimit
+batchLimit = lineLimit
+
 -- "The line starts with the 28 units"
 unfoldable pub batchFront : List ℕ
 unfolding units
@@ -59,7 +64,7 @@ batchFront = units "cmd.exe /e:ON /v:OFF /d /c \""
 -- the front, "then quote, the script without one final NUL, quote, then a space and form for each argument, then a quote"
 unfoldable pub batchLine : Bool → List ℕ → List Argument → List ℕ
 unfolding batchForm batchFront
-batchLine force script args = batchFront ++ enclosed script ++ tail (batchForm force) args ++ quote ∷ []
+batchLine force script args = batchFront ++ enclosed script ++ tail batchForm force args ++ quote ∷ []
 
 -- 7: "a script contains a quote, or its last unit as lent is a backslash"
 abbrev pub isNoScript : List ℕ → Bool
@@ -71,11 +76,18 @@ batchFinding a = wrongIf 6 (both (isRegular (a .kind)) (any isLineBreak (a .cont
 
 -- "Building: 1 over all records, lowest index first; 7; 5 for .. script; then argument by argument, 6 before 5; then 2; then 4."
 unfoldable pub batchCommandLine : Bool → List ℕ → List ℕ → List ℕ → ℕ → Outcome (List ℕ)
-unfolding argumentFault argumentsOf faultFrom batchLine scriptOf lineLimit endsInBackslash
+unfolding argumentFault argumentsOf faultFrom batchLine scriptOf batchLimit endsInBackslash
 batchCommandLine force script records text room =
     let args = argumentsOf text records in
     unless (argumentFault text records)
     (refuse 7 (isNoScript script)
     (refuse 5 (any isNul (scriptOf script))
     (unless (firstFault batchFinding args)
-    (limited lineLimit room (batchLine force (scriptOf script) args)))))
+    (limited batchLimit room (batchLine force (scriptOf script) args)))))
+
+-- ---- a line of either kind
+
+-- a batch line where the first says so, else an ordinary one
+abbrev pub eitherLine : Bool → Bool → List ℕ → List ℕ → List ℕ → ℕ → Outcome (List ℕ)
+eitherLine true force script records text room = batchCommandLine force script records text room
+eitherLine false force program records text room = commandLine force program records text room

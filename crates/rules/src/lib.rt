@@ -12,16 +12,22 @@ pub struct Arg {
 pub enum Refusal {
     Record(usize),
     Length,
-    Spans,
+    Places,
     Room,
     Nul(usize),
     LineBreak(usize),
     Script,
 }
 
-// The answer of an entry point that writes units: how many it wrote, or why it wrote none.
+// The answer of a builder of lines: how many units the line has, or why none was written.
 pub enum Built {
     Line { units: usize },
+    Refused(Refusal),
+}
+
+// The answer of an entry point that merely writes units, a block or a status text: how many, or why none.
+pub enum Filled {
+    Units(usize),
     Refused(Refusal),
 }
 

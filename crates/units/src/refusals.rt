@@ -10,7 +10,7 @@ pub fn number_of(r: Refusal) -> u32
     match r {
         Refusal::Record(_) => 1,
         Refusal::Length => 2,
-        Refusal::Spans => 3,
+        Refusal::Places => 3,
         Refusal::Room => 4,
         Refusal::Nul(_) => 5,
         Refusal::LineBreak(_) => 6,
@@ -25,7 +25,7 @@ pub fn place_of(r: Refusal) -> usize
     match r {
         Refusal::Record(place) => place,
         Refusal::Length => 0,
-        Refusal::Spans => 0,
+        Refusal::Places => 0,
         Refusal::Room => 0,
         Refusal::Nul(place) => place,
         Refusal::LineBreak(place) => place,
