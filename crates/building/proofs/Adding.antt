@@ -4,20 +4,20 @@ use native.Mathlib.Nat.{lt-of-not-le}
 use native.Mathlib.Numerals.{add-one}
 use native.Mathlib.Decide.{decLe}
 use native.Mathlib.Omega.{arith}
-use borrow.Author.Tests.{lt-ltb, le-ltb}
+use borrow.Author.Tests.{le-leb, lt-leb}
 use mathlib.Core.Path.{_≡_, sym, _∙_}
 use mathlib.Core.List.{List, _∷_, _++_}
 use lib.ListN.{length, take, drop, set}
 use lib.Seq.{sets}
-use Rattle.rules.specs.Building.{lineLimit}
 use Rattle.laws.specs.Store.{part-is, back-is, sets-rest, sets-out}
 use Rattle.laws.specs.Placed.{Appended}
-use Rattle.building.specs.Passes.{counted, stored, Added}
+use Rattle.building.specs.Limits.{countCap, counted}
+use Rattle.building.specs.Passes.{stored, Added}
 
--- past the limit nothing is added
-pub nothing-added : (run : List ℕ) (units : ℕ) (out : List ℕ) → lineLimit < units → Added run units (lineLimit + 1) out out
+-- at the cap nothing is added
+pub nothing-added : (run : List ℕ) (units : ℕ) (out : List ℕ) → countCap ≤ units → Added run units countCap out out
 unfolding counted stored
-nothing-added run units out h = record { counts = omega arith; stores = rw (lt-ltb lineLimit units h) }
+nothing-added run units out h = record { counts = omega arith; stores = rw (le-leb countCap units h) }
 
 -- a place that is clipped to the output's end is as good
 clipped-place : (out run : List ℕ) (at from : ℕ) → from ≡ min at (length out) → sets out from run ≡ sets out at run
@@ -36,7 +36,7 @@ in-the-rest out run rest at from n e a =
     let s : rest ≡ sets (drop from out) 0 run = rw part-is at (a .stores) in
     back-is from out rest ∙ rw s (sets-rest out run from (omega arith) ∙ clipped-place out run at from e)
 
-module _ (units : ℕ) (h : units ≤ lineLimit) where
+module _ (units : ℕ) (h : units < countCap) where
   -- a unit, and a run in the rest behind it
   pub unit-and-run : (x : ℕ) (run before out rest : List ℕ) (from n count : ℕ) → out ≡ set before units x → from ≡ min (units + 1) (length out)
       → Appended run n (take (length out - from) (drop from out)) rest → count ≡ counted (units + 1) n
@@ -46,5 +46,5 @@ module _ (units : ℕ) (h : units ≤ lineLimit) where
       let c = a .counts in
       record {
         counts = omega arith;
-        stores = rw (le-ltb lineLimit units h) (in-the-rest out run rest (units + 1) from n e a ∙ rw (p, add-one units));
+        stores = rw (lt-leb countCap units h) (in-the-rest out run rest (units + 1) from n e a ∙ rw (p, add-one units));
       }

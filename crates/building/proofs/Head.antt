@@ -13,7 +13,8 @@ use Rattle.rules.specs.Quoting.{enclosed}
 use Rattle.rules.specs.Building.{batchFront}
 use Rattle.laws.specs.Store.{sets-append}
 use Rattle.laws.specs.Placed.{Appended}
-use Rattle.building.specs.Stages.{frontOf, headOf}
+use Rattle.building.specs.Limits.{counted}
+use Rattle.building.specs.Line.{frontOf, headOf, frameUnits}
 
 -- the front has 28 units, or none
 pub front-short : (batch : Bool) → length (frontOf batch) ≤ 28
@@ -37,3 +38,15 @@ unfolding headOf
 head-stored batch name {out} {front} {opened} {named} {closed} {at} f o n c =
     let k = f .counts in
     record { counts = simp length-append (omega arith); stores = rw (c, n, o, f .stores, k) (sym (enclosed-stored out (frontOf batch) name)) }
+
+-- ---- what stands round the arguments
+
+-- in a batch line 31 units more than the name
+pub batch-frame : (name : List ℕ) → counted (length name) 31 ≡ frameUnits true name
+unfolding frameUnits headOf frontOf batchFront units counted
+batch-frame name = simp length-append (omega arith)
+
+-- in an ordinary one 2
+pub plain-frame : (name : List ℕ) → counted (length name) 2 ≡ frameUnits false name
+unfolding frameUnits headOf frontOf counted
+plain-frame name = simp length-append (omega arith)

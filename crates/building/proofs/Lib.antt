@@ -1,11 +1,6 @@
 pub mod Letters
-pub mod Findings
-pub mod Flat
-pub mod Runs
+pub mod Judged
+pub mod Forms
 pub mod Adding
 pub mod Script
 pub mod Head
-pub mod Settled
-pub mod Totals
-pub mod Whole
-pub mod Both

@@ -1,2 +1,9 @@
+pub mod Limits
+pub mod Records
+pub mod Line
 pub mod Passes
-pub mod Stages
+pub mod Works
+pub mod Flat
+pub mod Rows
+pub mod Both
+pub mod Turns

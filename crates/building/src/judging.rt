@@ -1,26 +1,16 @@
-// The refusals of building that are decided before anything is counted: 1, 7, 5 and 6.
+// The refusals of building that one argument's units can give, 6 and 5, and the most units that it can take.
 ghost use mathlib.Core.Path.{_≡_};
+ghost use Prim.Native.Nat.{_<_};
 ghost use Rattle.rules.specs.Record.{argumentOf};
-ghost use Rattle.building.specs.Passes.{recordJudged, breaksLine, unitsJudged, cutJudged};
+ghost use Rattle.building.specs.Line.{breaksLine};
+ghost use Rattle.building.specs.Passes.{mostUnits, unitsJudged};
+use crate::limits;
+use crate::works::Progress;
 use rules::Arg;
-use rules::Built;
 use rules::Refusal;
+use units::kinds;
 use units::parts;
 use units::scans;
-
-// 1: a kind that is none, or a part that exceeds the text. Start and length are widened first, so their sum cannot wrap.
-pub fn judge_record(text: &[u16], units: usize, place: usize, arg: Arg) -> Built
-    ensures { λ r. ⌜ r ≡ recordJudged (now (text .entry)) units place arg ⌝ }
-{
-    if 1 < arg.kind {
-        return Built::Refused(Refusal::Record(place));
-    }
-    let end = arg.start as usize + arg.len as usize;
-    if text.len() < end {
-        return Built::Refused(Refusal::Record(place));
-    }
-    Built::Line { units }
-}
 
 // Whether units hold a line break where none may be: in a regular argument of a batch line.
 fn breaks_line(batch: bool, kind: u32, content: &[u16]) -> bool
@@ -29,35 +19,30 @@ fn breaks_line(batch: bool, kind: u32, content: &[u16]) -> bool
     if !batch {
         return false;
     }
-    if kind != 0 {
+    if !kinds::is_regular(kind) {
         return false;
     }
     scans::has_line_break(content)
 }
 
-// 6 before 5: a line break in a regular argument of a batch line, or a NUL.
-pub fn judge_units(batch: bool, text: &[u16], units: usize, place: usize, arg: Arg) -> Built
+// The most units that an argument of so many takes in a line, with the space before it.
+fn most_units(batch: bool, units: usize) -> usize
+    requires { ⌜ units < 4294967296 ⌝ }
+    ensures { λ r. ⌜ r ≡ mostUnits batch units ⌝ }
+{
+    if batch { 8 * units + 3 } else { 2 * units + 3 }
+}
+
+// 6 before 5: a line break in a regular argument of a batch line, or a NUL. Else the most that the argument can take is counted.
+pub fn judge_units(batch: bool, text: &[u16], units: usize, place: usize, arg: Arg) -> Progress
     ensures { λ r. ⌜ r ≡ unitsJudged batch units place (argumentOf (now (text .entry)) arg) ⌝ }
 {
     let content = parts::part_of(text, arg.start, arg.len);
     if breaks_line(batch, arg.kind, content) {
-        return Built::Refused(Refusal::LineBreak(place));
+        return Progress::Stopped(Refusal::LineBreak(place));
     }
     if scans::has_nul(content) {
-        return Built::Refused(Refusal::Nul(place));
+        return Progress::Stopped(Refusal::Nul(place));
     }
-    Built::Line { units }
-}
-
-// 1: a flat list of so many numbers ends inside a record. The cut record has the place behind the whole ones.
-pub fn judge_cut(numbers: usize, so_far: Built) -> Built
-    ensures { λ r. ⌜ r ≡ cutJudged numbers «so_far» ⌝ }
-{
-    let Built::Line { units } = so_far else {
-        return so_far;
-    };
-    if numbers % 3 != 0 {
-        return Built::Refused(Refusal::Record(numbers / 3 + 1));
-    }
-    Built::Line { units }
+    Progress::On(limits::count_on(units, most_units(batch, content.len())))
 }

@@ -1,20 +1,22 @@
 // Command lines from lists of arguments: ordinary lines, batch lines, and the test for a batch suffix.
 ghost use mathlib.Core.Path.{_≡_};
 ghost use lib.ListN.{length};
-ghost use Rattle.rules.specs.Answer.{Answered};
+ghost use Rattle.rules.specs.Answer.{Answered, builtSaid};
 ghost use Rattle.rules.specs.Building.{commandLine, batchCommandLine};
 ghost use Rattle.rules.specs.Suffix.{hasBatchSuffix};
 use rules::Built;
-use units::classes;
 
-pub mod judging;
-pub mod lines;
-pub mod names;
-pub mod passes;
+mod judging;
+mod limits;
+mod lines;
+mod names;
 pub mod records;
-pub mod stages;
-pub mod suffix;
-pub mod writing;
+mod stages;
+pub mod styles;
+mod suffix;
+pub mod turns;
+pub mod works;
+mod writing;
 
 // Whether a path has a batch suffix. In the Rust: a closure of `spawn`, library/std/src/sys/process/windows.rs.
 pub fn has_bat_extension(path: &[u16]) -> bool
@@ -35,10 +37,9 @@ pub fn make_command_line(
     force_quotes: bool,
     out: &mut [u16],
 ) -> Built
-    ensures { λ r. ⌜ Answered (commandLine «force_quotes» (now (program .entry)) (now (records .entry)) (now (text .entry)) (length (now (out .entry)))) r (now (out .entry)) (now (out .exit)) ⌝ }
+    ensures { λ r. ⌜ Answered (commandLine «force_quotes» (now (program .entry)) (now (records .entry)) (now (text .entry)) (length (now (out .entry)))) (builtSaid r) (now (out .entry)) (now (out .exit)) ⌝ }
 {
-    let classes = classes::classes();
-    lines::build(&classes, false, force_quotes, program, records, text, out)
+    lines::build(false, program, records, text, force_quotes, out)
 }
 
 // Builds the line that runs a batch script. In the Rust: `make_bat_command_line`.
@@ -49,8 +50,7 @@ pub fn make_bat_command_line(
     force_quotes: bool,
     out: &mut [u16],
 ) -> Built
-    ensures { λ r. ⌜ Answered (batchCommandLine «force_quotes» (now (script .entry)) (now (records .entry)) (now (text .entry)) (length (now (out .entry)))) r (now (out .entry)) (now (out .exit)) ⌝ }
+    ensures { λ r. ⌜ Answered (batchCommandLine «force_quotes» (now (script .entry)) (now (records .entry)) (now (text .entry)) (length (now (out .entry)))) (builtSaid r) (now (out .entry)) (now (out .exit)) ⌝ }
 {
-    let classes = classes::classes();
-    lines::build(&classes, true, force_quotes, script, records, text, out)
+    lines::build(true, script, records, text, force_quotes, out)
 }

@@ -3,7 +3,8 @@ ghost use mathlib.Core.Path.{_≡_};
 ghost use Rattle.rules.specs.Choice.{both};
 ghost use Rattle.rules.specs.Building.{isNoScript, scriptOf};
 ghost use Rattle.laws.specs.Placed.{Appended};
-ghost use Rattle.building.specs.Stages.{nameOf, frontOf, headOf};
+ghost use Rattle.building.specs.Line.{nameOf, frontOf, headOf, frameUnits};
+use crate::limits;
 use units::scans;
 use units::stores;
 
@@ -99,4 +100,14 @@ pub fn put_head(batch: bool, name: &[u16], out: &mut [u16]) -> usize
     let end = start + name.len();
     stores::put(out, end, 34);
     end + 1
+}
+
+// How many units stand round the arguments: before them, and behind them the last quote of a batch line.
+pub fn frame_units(batch: bool, name: &[u16]) -> usize
+    ensures { λ r. ⌜ r ≡ frameUnits batch (now (name .entry)) ⌝ }
+{
+    if batch {
+        return limits::count_on(name.len(), 31);
+    }
+    limits::count_on(name.len(), 2)
 }

@@ -1,81 +1,85 @@
-// The stages of building a line behind each of its passes. They and the step of a pass are all that an entry point drives.
+// The stages of building a line, one behind each pass over the records: what is judged there, what is stored, and which pass comes next.
 ghost use mathlib.Core.Path.{_≡_};
 ghost use lib.ListN.{length};
-ghost use Rattle.building.specs.Stages.{endOf, afterRecords, afterUnits, afterMeasuring, afterMeasuringOut, afterWriting, afterWritingOut, Staged};
+ghost use Rattle.building.specs.Works.{afterRecords, Staged, surelyFits, afterUnits, afterUnitsOut, afterMeasuring, afterMeasuringOut, opened, openedOut, afterWriting, afterWritingOut};
+use crate::limits;
 use crate::names;
-use crate::writing;
-use rules::Built;
+use crate::works;
+use crate::works::Pass;
+use crate::works::Work;
 use rules::Refusal;
 use units::scans;
 use units::stores;
 
-// Behind the record pass: 7, then 5 for program or script.
-pub fn after_records(batch: bool, lent: &[u16], so_far: Built) -> Built
-    ensures { λ r. ⌜ r ≡ afterRecords batch (now (lent .entry)) «so_far» ⌝ }
+// Behind the record pass: 7, then 5 for program or script. The next one begins with what stands round the arguments.
+pub fn after_records(work: Work, lent: &[u16]) -> Work
+    ensures { λ r. ⌜ r ≡ afterRecords (now (lent .entry)) work ⌝ }
 {
-    let Built::Line { units } = so_far else {
-        return so_far;
-    };
-    if names::is_no_script(batch, lent) {
-        return Built::Refused(Refusal::Script);
+    let style = work.style;
+    if names::is_no_script(style.batch, lent) {
+        return works::stop(work, Refusal::Script);
     }
-    if scans::has_nul(names::name_of(batch, lent)) {
-        return Built::Refused(Refusal::Nul(0));
+    let name = names::name_of(style.batch, lent);
+    if scans::has_nul(name) {
+        return works::stop(work, Refusal::Nul(0));
     }
-    Built::Line { units }
+    works::enter(work, Pass::Units, names::frame_units(style.batch, name))
 }
 
-// How many units stand behind the arguments: the last quote of a batch line.
-fn end_units(batch: bool) -> usize
-    ensures { λ r. ⌜ r ≡ length (endOf batch) ⌝ }
+// Into writing: what stands before the arguments. Nothing is stored before this.
+fn open(work: Work, lent: &[u16], out: &mut [u16]) -> Work
+    ensures { λ r. ⌜ Staged (opened (now (lent .entry)) work) (openedOut (now (lent .entry)) work (now (out .entry))) r (now (out .exit)) ⌝ }
 {
-    if batch { 1 } else { 0 }
+    let style = work.style;
+    let units = names::put_head(style.batch, names::name_of(style.batch, lent), out);
+    works::enter(work, Pass::Write, units)
 }
 
-// Behind the units pass: what stands round the arguments is counted first.
-pub fn after_units(batch: bool, lent: &[u16], so_far: Built) -> Built
-    ensures { λ r. ⌜ r ≡ afterUnits batch (now (lent .entry)) «so_far» ⌝ }
+// Whether the most that a line can take is neither past the limit nor past the room.
+fn surely_fits(batch: bool, units: usize, room: usize) -> bool
+    ensures { λ r. ⌜ r ≡ surelyFits batch units room ⌝ }
 {
-    let Built::Line { units: _ } = so_far else {
-        return so_far;
-    };
-    let mut none = [0u16; 0];
-    let head = names::put_head(batch, names::name_of(batch, lent), &mut none);
-    Built::Line {
-        units: writing::count_on(end_units(batch), head),
+    if limits::limit_of(batch) < units {
+        return false;
     }
+    units <= room
 }
 
-// Behind measuring: 2, then 4, both on the whole line; then the line is begun. Nothing is stored before this.
-pub fn after_measuring(batch: bool, lent: &[u16], so_far: Built, out: &mut [u16]) -> Built
-    ensures { λ r. ⌜ Staged (afterMeasuring batch (now (lent .entry)) (length (now (out .entry))) «so_far») (afterMeasuringOut batch (now (lent .entry)) «so_far» (now (out .entry))) r (now (out .exit)) ⌝ }
+// Behind the units pass: where even the most that the arguments can take fits the limit and the room, nothing is measured.
+pub fn after_units(work: Work, lent: &[u16], out: &mut [u16]) -> Work
+    ensures { λ r. ⌜ Staged (afterUnits (now (lent .entry)) (length (now (out .entry))) work) (afterUnitsOut (now (lent .entry)) work (now (out .entry))) r (now (out .exit)) ⌝ }
 {
-    let Built::Line { units } = so_far else {
-        return so_far;
-    };
-    if writing::LINE_LIMIT < units {
-        return Built::Refused(Refusal::Length);
+    let style = work.style;
+    if surely_fits(style.batch, work.units, out.len()) {
+        return open(work, lent, out);
     }
-    if out.len() < units {
-        return Built::Refused(Refusal::Room);
+    let name = names::name_of(style.batch, lent);
+    works::enter(work, Pass::Measure, names::frame_units(style.batch, name))
+}
+
+// Behind measuring: 2, then 4, both on the whole line.
+pub fn after_measuring(work: Work, lent: &[u16], out: &mut [u16]) -> Work
+    ensures { λ r. ⌜ Staged (afterMeasuring (now (lent .entry)) (length (now (out .entry))) work) (afterMeasuringOut (now (lent .entry)) work (now (out .entry))) r (now (out .exit)) ⌝ }
+{
+    let style = work.style;
+    if limits::limit_of(style.batch) < work.units {
+        return works::stop(work, Refusal::Length);
     }
-    Built::Line {
-        units: names::put_head(batch, names::name_of(batch, lent), out),
+    if out.len() < work.units {
+        return works::stop(work, Refusal::Room);
     }
+    open(work, lent, out)
 }
 
 // Behind writing: the last quote of a batch line.
-pub fn after_writing(batch: bool, so_far: Built, out: &mut [u16]) -> Built
-    ensures { λ r. ⌜ Staged (afterWriting batch «so_far») (afterWritingOut batch «so_far» (now (out .entry))) r (now (out .exit)) ⌝ }
+pub fn after_writing(work: Work, out: &mut [u16]) -> Work
+    ensures { λ r. ⌜ Staged (afterWriting work) (afterWritingOut work (now (out .entry))) r (now (out .exit)) ⌝ }
 {
-    let Built::Line { units } = so_far else {
-        return so_far;
-    };
-    if batch {
+    let style = work.style;
+    let units = work.units;
+    if style.batch {
         stores::put(out, units, 34);
-        return Built::Line {
-            units: writing::count_on(units, 1),
-        };
+        return works::finish(work, limits::count_on(units, 1));
     }
-    so_far
+    works::finish(work, units)
 }

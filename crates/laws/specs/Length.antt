@@ -1,4 +1,4 @@
--- How long escaped units and digits can be. Assumes nothing.
+-- How long escaped units, forms and digits can be. Assumes nothing.
 use Prim.Native.Nat.{ℕ, zero, suc, _+_, _*_, _≤_, _/_, _%_}
 use native.Mathlib.Omega.{arith}
 use mathlib.Core.Bool.{Bool, true, false}
@@ -7,8 +7,8 @@ use lib.Dec.{ltb}
 use lib.ListN.{length, length-append, length-replicate}
 use Rattle.rules.specs.Choice.{pick}
 use Rattle.rules.specs.Unit.{units, isPercent}
-use Rattle.rules.specs.Quoting.{slashes, escaped}
-use Rattle.rules.specs.Batch.{batchEscaped}
+use Rattle.rules.specs.Quoting.{slashes, escaped, needsQuotes, enclosed, form}
+use Rattle.rules.specs.Batch.{batchEscaped, needsBatchQuotes, batchForm}
 use Rattle.rules.specs.Status.{glyph, digits}
 use Rattle.laws.specs.Choice.{choose}
 use Rattle.laws.specs.Kind.{Kind, slash, marked, other, kind}
@@ -61,6 +61,24 @@ pub batch-escaped-length : (q : Bool) (xs : List ℕ) (k : ℕ) → length (batc
 unfolding batchEscaped
 batch-escaped-length q [] = λ k. omega (arith, end-length q k)
 batch-escaped-length q (x ∷ xs) = batch-step q xs (kind x) (batch-escaped-length q xs)
+
+-- ---- forms
+
+-- an argument of n units takes at most 2n + 2
+pub form-length : (force : Bool) (xs : List ℕ) → length (form force xs) ≤ 2 * length xs + 2
+unfolding form
+form-length force xs =
+    choose (λ r. length r ≤ 2 * length xs + 2) (needsQuotes force xs) {x = enclosed (escaped true 0 xs)} {y = escaped false 0 xs}
+    (simp length-append (omega (arith, escaped-length true xs 0)))
+    (omega (arith, escaped-length false xs 0))
+
+-- in a batch line at most 8n + 2
+pub batch-form-length : (force : Bool) (xs : List ℕ) → length (batchForm force xs) ≤ 8 * length xs + 2
+unfolding batchForm
+batch-form-length force xs =
+    choose (λ r. length r ≤ 8 * length xs + 2) (needsBatchQuotes force xs) {x = enclosed (batchEscaped true 0 xs)} {y = batchEscaped false 0 xs}
+    (simp length-append (omega (arith, batch-escaped-length true xs 0)))
+    (omega (arith, batch-escaped-length false xs 0))
 
 -- ---- digits
 

@@ -38,7 +38,7 @@ pub fn append_arg(
     force_quotes: bool,
 ) -> usize
     requires { ⌜ now classes ≡ classTable ⌝ }
-    ensures { λ r. ⌜ Appended (written (form «force_quotes») (record { kind = kind; content = now (arg .entry) })) r (now (out .entry)) (now (out .exit)) ⌝ }
+    ensures { λ r. ⌜ Appended (written form «force_quotes» (record { kind = kind; content = now (arg .entry) })) r (now (out .entry)) (now (out .exit)) ⌝ }
 {
     if is_regular(kind) {
         let quoted = decisions::needs_quotes(classes, arg, force_quotes);
@@ -56,7 +56,7 @@ pub fn append_bat_arg(
     force_quotes: bool,
 ) -> usize
     requires { ⌜ (now classes ≡ classTable) × (length (now arg) < 4294967296) ⌝ }
-    ensures { λ r. ⌜ Appended (written (batchForm «force_quotes») (record { kind = kind; content = now (arg .entry) })) r (now (out .entry)) (now (out .exit)) ⌝ }
+    ensures { λ r. ⌜ Appended (written batchForm «force_quotes» (record { kind = kind; content = now (arg .entry) })) r (now (out .entry)) (now (out .exit)) ⌝ }
 {
     if is_regular(kind) {
         let quoted = decisions::needs_batch_quotes(classes, arg, force_quotes);

@@ -1,5 +1,6 @@
 // Units: their classes, parts of a lent text, scans over lent units, stores into lent units, and a refusal's number and place.
 pub mod classes;
+pub mod kinds;
 pub mod parts;
 pub mod refusals;
 pub mod scans;

@@ -18,10 +18,24 @@ has-nul-requires c κs = search needs
 returns-2 : tie.Need-returns-2
 returns-2 c = rw (← c .before .before .before .before .part-of .ensures .names, ← c .before .before .before .breaks-line .ensures, c .before .before .if1 .left, ← c .before .has-nul .ensures, c .if2 .taken)
 
+most-units-requires : tie.Need-most-units-requires
+most-units-requires c κs = c .before .before .before .before .part-of .ensures .short
+
+count-on-requires : tie.Need-count-on-requires
+count-on-requires c κs = search needs
+
 returns-3 : tie.Need-returns-3
-returns-3 c = rw (← c .before .before .before .before .part-of .ensures .names, ← c .before .before .before .breaks-line .ensures, c .before .before .if1 .left, ← c .before .has-nul .ensures, c .if2 .left)
+returns-3 c = rw (← c .before .before .before .before .before .before .part-of .ensures .names, ← c .before .before .before .before .before .breaks-line .ensures, c .before .before .before .before .if1 .left, ← c .before .before .before .has-nul .ensures, c .before .before .if2 .left, c .count-on .ensures, c .before .most-units .ensures)
 
 pub judge-units-spec : {M : Type 1} → statement M
 judge-units-spec =
     tie.close
-    (tie.spec part-of-requires breaks-line-requires returns has-nul-requires returns-2 returns-3)
+    (tie.spec
+    part-of-requires
+    breaks-line-requires
+    returns
+    has-nul-requires
+    returns-2
+    most-units-requires
+    count-on-requires
+    returns-3)

@@ -1,90 +1,71 @@
 -- `building::lines::build` meets its contract. Assumes nothing.
 use borrow.Author.Needs.{needs}
-use native.Mathlib.Omega.{arith}
-use mathlib.Core.Path.{_∙_, refl}
-use Rattle.building.specs.Passes.{recordsOf}
-use Rattle.building.proofs.Settled.{flat-settles}
-use Rattle.building.proofs.Totals.{ran-quiet}
-use Rattle.building.proofs.Whole.{all-answered}
+use mathlib.Core.Path.{_≡_, refl}
+use lib.ListN.{length}
+use Rattle.rules.specs.Building.{eitherLine}
+use Rattle.building.specs.Records.{recordsOf}
+use Rattle.building.specs.Turns.{Stands, stands-judged, stands-last, turns, turnsLeft}
 use Rattle.building.proofs.lines.build.Statement.{statement}
 use Rattle.building.proofs.lines.build.Tie as tie
 
-over-requires : tie.Need-over-requires
-over-requires c κs = search needs
+abbrev Inv-loop : tie.InvT-loop
+Inv-loop batch lent records text force out₀ classes work₀ out work =
+    Stands (eitherLine batch force lent records text (length out₀)) lent text (recordsOf records) out₀ work out × (length out ≡ length out₀)
 
-judge-cut-requires : tie.Need-judge-cut-requires
-judge-cut-requires c κs = search needs
+abbrev μ-loop : tie.MeasureT-loop
+μ-loop batch lent records text force out₀ classes work₀ out work =
+    turnsLeft (eitherLine batch force lent records text (length out₀)) lent text (recordsOf records) out₀ work
 
-after-records-requires : tie.Need-after-records-requires
-after-records-requires c κs = search needs
+classes-requires : tie.Need-classes-requires Inv-loop μ-loop
+classes-requires c κs = search needs
 
-over-requires-2 : tie.Need-over-requires-2
-over-requires-2 c κs = search needs
+first-fault-requires : tie.Need-first-fault-requires Inv-loop μ-loop
+first-fault-requires c κs = search needs
 
-after-units-requires : tie.Need-after-units-requires
-after-units-requires c κs = search needs
+begin-judged-requires : tie.Need-begin-judged-requires Inv-loop μ-loop
+begin-judged-requires c κs = search needs
 
-over-requires-3 : tie.Need-over-requires-3
-over-requires-3 c κs = search needs
+loop-holds : tie.Need-loop-holds Inv-loop μ-loop
+loop-holds c =
+    let a = c .before .before .before .before .before .before .before .args in
+    let s = stands-judged (a .batch) (a .force-quotes) (a .lent .now) (a .records .now) (a .text .now) (a .out .now) (c .before .first-fault .result) (c .before .first-fault .ensures) in
+    (rw (c .begin-judged .ensures) s, refl)
 
-after-measuring-requires : tie.Need-after-measuring-requires
-after-measuring-requires c κs = search needs
+record-at-requires : tie.Need-record-at-requires Inv-loop μ-loop
+record-at-requires c κs = search needs
 
-over-requires-4 : tie.Need-over-requires-4
-over-requires-4 c κs =
-    let b = c .before .before .before .before .before .before in
-    let d = b .before .before .before .before .before .before in
-    let e = d .before .before .before .before .before .before in
-    e .before .before .before .before .before .before .pre
+turn-requires : tie.Need-turn-requires Inv-loop μ-loop
+turn-requires c κs = search needs
 
-after-writing-requires : tie.Need-after-writing-requires
-after-writing-requires c κs = search needs
+loop-less : tie.Need-loop-less Inv-loop μ-loop
+loop-less c =
+    let l = c .before .before .before .before .before .before .before in
+    turns _ _ _ _ _ (l .loop .inv .0) (c .before .before .before .before .before .before .loop-test .taken) (λ h. c .before .before .before .before .before .record-at .ensures) (c .before .before .turn .ensures) .1
 
-same-length : tie.Need-same-length
-same-length c =
-    let w = c .before .before in
-    let f = w .before .before .before .before in
-    let m = f .before .before .before .before in
-    let t = m .before .before .before .before in
-    let k = t .before .before .before .before .before in
-    let r = k .before .before .before .before .before .before in
-    omega (arith, w .after-writing .kept .1 .1 .0, f .over4 .kept .1 .1 .1 .1 .1 .0, m .after-measuring .kept .1 .1 .1 .0, t .over3 .kept .1 .1 .1 .1 .1 .0, k .over2 .kept .1 .1 .1 .1 .1 .0, r .over .kept .1 .1 .1 .1 .1 .0)
+loop-again : tie.Need-loop-again Inv-loop μ-loop
+loop-again c =
+    let l = c .before .before .before .before .before .before .before in
+    (turns _ _ _ _ _ (l .loop .inv .0) (c .before .before .before .before .before .before .loop-test .taken) (λ h. c .before .before .before .before .before .record-at .ensures) (c .before .before .turn .ensures) .0, search needs)
 
-returns : tie.Need-returns
-returns c =
-    let w = c .before .before in
-    let f = w .before .before .before .before in
-    let m = f .before .before .before .before in
-    let t = m .before .before .before .before in
-    let u = t .before .before in
-    let k = u .before .before .before in
-    let n = k .before .before in
-    let j = n .before in
-    let r = j .before .before .before in
-    let a = r .before .before .before .before .before .before .args in
-    let kept = ran-quiet (λ a out units. refl) (t .over3 .ensures) ∙ ran-quiet (λ a out units. refl) (k .over2 .ensures) ∙ ran-quiet (λ a out units. refl) (r .over .ensures) in
-    all-answered (a .batch) (a .force-quotes) (a .lent .now) (a .text .now) (recordsOf (a .records .now)) (a .out .now)
-    (flat-settles (a .text .now) (a .records .now) (r .over .ensures .answers) (j .judge-cut .ensures))
-    (n .after-records .ensures)
-    (k .over2 .ensures .answers)
-    (u .after-units .ensures)
-    (t .over3 .ensures .answers)
-    (rw kept at (m .after-measuring .ensures))
-    (f .over4 .ensures)
-    (w .after-writing .ensures)
+same-length : tie.Need-same-length Inv-loop μ-loop
+same-length c = search needs
+
+returns : tie.Need-returns Inv-loop μ-loop
+returns c = stands-last _ _ _ _ _ (c .before .loop .inv .0) (c .loop-test .left)
 
 pub build-spec : {M : Type 1} → statement M
 build-spec =
     tie.close
     (tie.spec
-    over-requires
-    judge-cut-requires
-    after-records-requires
-    over-requires-2
-    after-units-requires
-    over-requires-3
-    after-measuring-requires
-    over-requires-4
-    after-writing-requires
+    Inv-loop
+    μ-loop
+    classes-requires
+    first-fault-requires
+    begin-judged-requires
+    loop-holds
+    record-at-requires
+    turn-requires
+    loop-less
+    loop-again
     same-length
     returns)

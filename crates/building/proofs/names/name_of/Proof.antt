@@ -1,6 +1,6 @@
 -- `building::names::name_of` meets its contract. Assumes nothing.
 use borrow.Author.Needs.{needs}
-use Rattle.building.specs.Stages.{nameOf}
+use Rattle.building.specs.Line.{nameOf}
 use Rattle.building.proofs.names.name_of.Statement.{statement}
 use Rattle.building.proofs.names.name_of.Tie as tie
 

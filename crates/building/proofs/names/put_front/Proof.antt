@@ -2,7 +2,7 @@
 use borrow.Author.Needs.{needs}
 use Rattle.rules.specs.Unit.{units}
 use Rattle.rules.specs.Building.{batchFront}
-use Rattle.building.specs.Stages.{frontOf}
+use Rattle.building.specs.Line.{frontOf}
 use Rattle.building.proofs.names.put_front.Statement.{statement}
 use Rattle.building.proofs.names.put_front.Tie as tie
 

@@ -3,20 +3,14 @@ use borrow.Author.Needs.{needs}
 use Rattle.building.proofs.stages.after_records.Statement.{statement}
 use Rattle.building.proofs.stages.after_records.Tie as tie
 
-enum-known-so-far : tie.Need-enum-known-so-far
-enum-known-so-far c = search needs
-
-enum-told : tie.Need-enum-told
-enum-told c = search needs
-
-returns : tie.Need-returns
-returns c = rw (c .enum-told .given .1)
-
 is-no-script-requires : tie.Need-is-no-script-requires
 is-no-script-requires c κs = search needs
 
-returns-2 : tie.Need-returns-2
-returns-2 c = rw (c .before .before .before .so-far .given .1, ← c .before .is-no-script .ensures, c .if1 .taken)
+stop-requires : tie.Need-stop-requires
+stop-requires c κs = search needs
+
+returns : tie.Need-returns
+returns c = rw (← c .before .before .is-no-script .ensures, c .before .if1 .taken) (c .stop .ensures)
 
 name-of-requires : tie.Need-name-of-requires
 name-of-requires c κs = search needs
@@ -24,22 +18,32 @@ name-of-requires c κs = search needs
 has-nul-requires : tie.Need-has-nul-requires
 has-nul-requires c κs = search needs
 
-returns-3 : tie.Need-returns-3
-returns-3 c = rw (c .before .before .before .before .before .before .so-far .given .1, ← c .before .before .before .before .is-no-script .ensures, c .before .before .before .if1 .left, ← c .before .before .name-of .ensures, ← c .before .has-nul .ensures, c .if2 .taken)
+stop-requires-2 : tie.Need-stop-requires-2
+stop-requires-2 c κs = search needs
 
-returns-4 : tie.Need-returns-4
-returns-4 c = rw (c .before .before .before .before .before .before .so-far .given .1, ← c .before .before .before .before .is-no-script .ensures, c .before .before .before .if1 .left, ← c .before .before .name-of .ensures, ← c .before .has-nul .ensures, c .if2 .left)
+returns-2 : tie.Need-returns-2
+returns-2 c = rw (← c .before .before .before .before .before .is-no-script .ensures, c .before .before .before .before .if1 .left, ← c .before .before .before .name-of .ensures, ← c .before .before .has-nul .ensures, c .before .if2 .taken) (c .stop2 .ensures)
+
+frame-units-requires : tie.Need-frame-units-requires
+frame-units-requires c κs = search needs
+
+enter-requires : tie.Need-enter-requires
+enter-requires c κs = search needs
+
+returns-3 : tie.Need-returns-3
+returns-3 c = rw (← c .before .before .before .before .before .before .is-no-script .ensures, c .before .before .before .before .before .if1 .left, ← c .before .before .before .before .name-of .ensures, ← c .before .before .before .has-nul .ensures, c .before .before .if2 .left, ← c .before .frame-units .ensures) (c .enter .ensures)
 
 pub after-records-spec : {M : Type 1} → statement M
 after-records-spec =
     tie.close
     (tie.spec
-    enum-known-so-far
-    enum-told
-    returns
     is-no-script-requires
-    returns-2
+    stop-requires
+    returns
     name-of-requires
     has-nul-requires
-    returns-3
-    returns-4)
+    stop-requires-2
+    returns-2
+    frame-units-requires
+    enter-requires
+    returns-3)

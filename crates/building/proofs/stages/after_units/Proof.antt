@@ -1,45 +1,47 @@
 -- `building::stages::after_units` meets its contract. Assumes nothing.
 use borrow.Author.Needs.{needs}
+use mathlib.Core.Path.{sym}
 use Rattle.building.proofs.stages.after_units.Statement.{statement}
 use Rattle.building.proofs.stages.after_units.Tie as tie
 
-enum-told : tie.Need-enum-told
-enum-told c = search needs
+surely-fits-requires : tie.Need-surely-fits-requires
+surely-fits-requires c κs = search needs
 
-enum-told-2 : tie.Need-enum-told-2
-enum-told-2 c = search needs
+open-requires : tie.Need-open-requires
+open-requires c κs = search needs
+
+same-length : tie.Need-same-length
+same-length c = search needs
 
 returns : tie.Need-returns
-returns c = rw (c .enum-told2 .given .1)
+returns c =
+    let o = c .before .before .«open» .ensures in
+    let e = rw (c .before .before .before .before .if1 .taken) at (sym (c .before .before .before .before .before .surely-fits .ensures)) in
+    record { works = rw e (o .works); stores = rw e (o .stores) }
 
 name-of-requires : tie.Need-name-of-requires
 name-of-requires c κs = search needs
 
-slice-aggregate-put-head : tie.Need-slice-aggregate-put-head
-slice-aggregate-put-head c = search needs
+frame-units-requires : tie.Need-frame-units-requires
+frame-units-requires c κs = search needs
 
-put-head-requires : tie.Need-put-head-requires
-put-head-requires c κs = search needs
-
-end-units-requires : tie.Need-end-units-requires
-end-units-requires c κs = search needs
-
-count-on-requires : tie.Need-count-on-requires
-count-on-requires c κs = search needs
+enter-requires : tie.Need-enter-requires
+enter-requires c κs = search needs
 
 returns-2 : tie.Need-returns-2
-returns-2 c = rw (c .before .before .before .before .before .before .enum-told .given .1, c .count-on .ensures, c .before .end-units .ensures, c .before .before .before .put-head .ensures .counts, c .before .before .before .before .before .name-of .ensures)
+returns-2 c =
+    let e = rw (c .before .before .before .if1 .left) at (sym (c .before .before .before .before .surely-fits .ensures)) in
+    record { works = rw (e, ← c .before .before .name-of .ensures, ← c .before .frame-units .ensures) (c .enter .ensures); stores = rw e }
 
 pub after-units-spec : {M : Type 1} → statement M
 after-units-spec =
     tie.close
     (tie.spec
-    enum-told
-    enum-told-2
+    surely-fits-requires
+    open-requires
+    same-length
     returns
     name-of-requires
-    slice-aggregate-put-head
-    put-head-requires
-    end-units-requires
-    count-on-requires
+    frame-units-requires
+    enter-requires
     returns-2)

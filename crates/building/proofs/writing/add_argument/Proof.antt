@@ -1,21 +1,20 @@
 -- `building::writing::add_argument` meets its contract. Assumes nothing.
 use borrow.Author.Needs.{needs}
-use Rattle.rules.specs.Building.{lineLimit, written}
+use Rattle.rules.specs.Building.{written}
 use Rattle.rules.specs.Record.{argumentOf}
 use Rattle.rules.specs.Unit.{space}
-use Rattle.building.specs.Passes.{piece, ruleOf}
+use Rattle.building.specs.Limits.{countCap}
+use Rattle.building.specs.Line.{ruleOf}
+use Rattle.building.specs.Passes.{piece}
 use Rattle.building.proofs.Adding.{nothing-added, unit-and-run}
 use Rattle.building.proofs.writing.add_argument.Statement.{statement}
 use Rattle.building.proofs.writing.add_argument.Tie as tie
 
-add-result : tie.Need-add-result
-add-result c = search needs
-
 returns : tie.Need-returns
-unfolding lineLimit
+unfolding countCap
 returns c =
     let a = c .before .before .before .args in
-    nothing-added (piece (a .batch) (a .force-quotes) (argumentOf (a .text .now) (a .arg))) (a .units) (a .out .now) (c .if1 .taken)
+    nothing-added (piece (a .style) (argumentOf (a .text .now) (a .arg))) (a .units) (a .out .now) (c .if1 .taken)
 
 part-of-requires : tie.Need-part-of-requires
 part-of-requires c κs = search needs
@@ -53,7 +52,7 @@ same-length : tie.Need-same-length
 same-length c = search needs
 
 returns-2 : tie.Need-returns-2
-unfolding lineLimit
+unfolding countCap
 returns-2 c =
     let f = c .before .before .before in
     let s = f .before .before in
@@ -61,7 +60,7 @@ returns-2 c =
     let p = o .before .before in
     let a = p .before .before .before .before .args in
     let argument = argumentOf (a .text .now) (a .arg) in
-    unit-and-run (a .units) (p .before .if1 .left) space (written (ruleOf (a .batch) (a .force-quotes)) argument) (a .out .now) (o .put .last .0) (f .append-form .last .1 .0) (s .smaller .result) (f .append-form .result) (c .count-on .result)
+    unit-and-run (a .units) (p .before .if1 .left) space (written (ruleOf (a .style .batch)) (a .style .force) argument) (a .out .now) (o .put .last .0) (f .append-form .last .1 .0) (s .smaller .result) (f .append-form .result) (c .count-on .result)
     (o .put .ensures)
     (s .smaller .ensures)
     (rw (← p .part-of .ensures .names) (f .append-form .ensures))
@@ -71,7 +70,6 @@ pub add-argument-spec : {M : Type 1} → statement M
 add-argument-spec =
     tie.close
     (tie.spec
-    add-result
     returns
     part-of-requires
     put-requires

@@ -1,6 +1,6 @@
 -- `building::writing::append_form` meets its contract. Assumes nothing.
 use borrow.Author.Needs.{needs}
-use Rattle.building.specs.Passes.{ruleOf}
+use Rattle.building.specs.Line.{ruleOf}
 use Rattle.building.proofs.writing.append_form.Statement.{statement}
 use Rattle.building.proofs.writing.append_form.Tie as tie
 

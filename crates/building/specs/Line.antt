@@ -1,0 +1,86 @@
+-- A line of either kind, by one definition: its parts, and what building it comes to. Assumes nothing.
+use Prim.Native.Nat.{ℕ}
+use mathlib.Core.Bool.{Bool, true, false}
+use mathlib.Core.List.{List, [], _∷_, _++_, map}
+use lib.ListN.{length}
+use Rattle.rules.specs.declared.Arg.{Arg}
+use Rattle.rules.specs.Choice.{both, any}
+use Rattle.rules.specs.Unit.{isNul, isLineBreak, quote}
+use Rattle.rules.specs.Outcome.{Outcome, refuse, Finding, wrongIf, Fault, faultFrom, firstFault, unless, limited}
+use Rattle.rules.specs.Record.{Argument, argumentOf, isRegular}
+use Rattle.rules.specs.Quoting.{form, enclosed}
+use Rattle.rules.specs.Batch.{batchForm}
+use Rattle.rules.specs.Building.{tail, nulFinding, scriptOf, batchFront, isNoScript}
+use Rattle.building.specs.declared.styles.Style.{Style}
+use Rattle.building.specs.Limits.{limitOf, counted}
+
+-- ---- its parts
+
+-- the name that a line starts with: the program, or the script without one final NUL
+unfoldable pub nameOf : Bool → List ℕ → List ℕ
+unfolding scriptOf
+nameOf true lent = scriptOf lent
+nameOf false lent = lent
+
+-- what stands before the name: the 28 units of a batch line, or nothing
+unfoldable pub frontOf : Bool → List ℕ
+unfolding batchFront
+frontOf true = batchFront
+frontOf false = []
+
+-- what stands before the arguments
+unfoldable pub headOf : Bool → List ℕ → List ℕ
+unfolding frontOf
+headOf batch name = frontOf batch ++ enclosed name
+
+-- what stands behind them: the last quote of a batch line, or nothing
+abbrev pub endOf : Bool → List ℕ
+endOf true = quote ∷ []
+endOf false = []
+
+-- how many units stand round them
+unfoldable pub frameUnits : Bool → List ℕ → ℕ
+unfolding headOf counted
+frameUnits batch name = counted (length (headOf batch name)) (length (endOf batch))
+
+-- the form of a regular argument in either line
+unfoldable pub ruleOf : Bool → Bool → List ℕ → List ℕ
+unfolding form batchForm
+ruleOf true force xs = batchForm force xs
+ruleOf false force xs = form force xs
+
+-- for each argument one space and its form
+abbrev pub rowOf : Style → List Argument → List ℕ
+rowOf s args = tail (ruleOf (s .batch)) (s .force) args
+
+-- the whole line
+unfoldable pub wholeLine : Style → List ℕ → List Argument → List ℕ
+unfolding headOf ruleOf
+wholeLine s name args = headOf (s .batch) name ++ rowOf s args ++ endOf (s .batch)
+
+-- ---- what building it comes to
+
+-- a line break where none may be: in a regular argument of a batch line
+abbrev pub breaksLine : Bool → Argument → Bool
+breaksLine batch a = both batch (both (isRegular (a .kind)) (any isLineBreak (a .content)))
+
+-- 6 and 5 of an argument
+abbrev pub unitsFinding : Bool → Argument → Finding
+unitsFinding batch a = wrongIf 6 (breaksLine batch a) (nulFinding a)
+
+-- 2, then 4, on the whole line
+unfoldable pub lineLimited : Style → List ℕ → List Argument → ℕ → Outcome (List ℕ)
+unfolding nameOf wholeLine limitOf
+lineLimited s lent args room = limited (limitOf (s .batch)) room (wholeLine s (nameOf (s .batch) lent) args)
+
+-- 7; 5 for program or script; then argument by argument, 6 before 5; then 2; then 4
+unfoldable pub lineNamed : Style → List ℕ → List Argument → ℕ → Outcome (List ℕ)
+unfolding nameOf faultFrom lineLimited
+lineNamed s lent args room =
+    refuse 7 (both (s .batch) (isNoScript lent))
+    (refuse 5 (any isNul (nameOf (s .batch) lent)) (unless (firstFault (unitsFinding (s .batch)) args) (lineLimited s lent args room)))
+
+-- the fault of the records, before all that
+unfoldable pub lineOutcome : Style → List ℕ → List ℕ → Fault → List Arg → ℕ → Outcome (List ℕ)
+unfolding lineNamed
+lineOutcome s lent text faults records room = unless faults (lineNamed s lent (map (argumentOf text) records) room)
