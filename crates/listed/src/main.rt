@@ -71,21 +71,21 @@ fn records(third: u32) -> [Arg; 4] {
 // An ordinary line, and its answer.
 fn print_line(program: &[u16], args: [Arg; 4], text: &[u16]) {
     let mut out = [0u16; 128];
-    let answer = listing::make_command_line_of_four(program, args, text, false, &mut out);
+    let answer = slices::make_command_line_of_four(program, args, text, false, &mut out);
     print_answer(answer, &out);
 }
 
 // The same with room for 20 units.
 fn print_short_line(program: &[u16], args: [Arg; 4], text: &[u16]) {
     let mut out = [0u16; 20];
-    let answer = listing::make_command_line_of_four(program, args, text, false, &mut out);
+    let answer = slices::make_command_line_of_four(program, args, text, false, &mut out);
     print_answer(answer, &out);
 }
 
 // A batch line with forced quotes, and its answer.
 fn print_batch_line(script: &[u16], args: [Arg; 4], text: &[u16]) {
     let mut out = [0u16; 128];
-    let answer = listing::make_bat_command_line_of_four(script, args, text, true, &mut out);
+    let answer = slices::make_bat_command_line_of_four(script, args, text, true, &mut out);
     print_answer(answer, &out);
 }
 

@@ -1,14 +1,13 @@
 // Command lines from a slice of records: the entries over `&[Arg]`, whose answers are those of the flat entries on the records' numbers.
 ghost use lib.ListN.{length};
-ghost use Rattle.rules.specs.Answer.{Answered};
-ghost use Rattle.rules.specs.Building.{commandLine, batchCommandLine};
+ghost use Rattle.rules.specs.Answer.{Answered, builtSaid};
+ghost use Rattle.rules.specs.Building.{commandLine, batchCommandLine, eitherLine};
 ghost use Rattle.rules.specs.Record.{flatOf};
-ghost use Rattle.listing.specs.Either.{eitherLine};
+use building::turns;
+use building::works;
 use rules::Arg;
 use rules::Built;
 use units::classes;
-
-mod works;
 
 // Builds a line of either kind. The one loop of this crate: each turn is a covered one, and hands on the state by value.
 fn make_line_of(
@@ -19,7 +18,7 @@ fn make_line_of(
     force_quotes: bool,
     out: &mut [u16],
 ) -> Built
-    ensures { λ r. ⌜ Answered (eitherLine batch «force_quotes» (now (lent .entry)) (flatOf (now (args .entry))) (now (text .entry)) (length (now (out .entry)))) r (now (out .entry)) (now (out .exit)) ⌝ }
+    ensures { λ r. ⌜ Answered (eitherLine batch «force_quotes» (now (lent .entry)) (flatOf (now (args .entry))) (now (text .entry)) (length (now (out .entry)))) (builtSaid r) (now (out .entry)) (now (out .exit)) ⌝ }
 {
     let classes = classes::classes();
     let table = &classes;
@@ -34,7 +33,7 @@ fn make_line_of(
         if at < args.len() {
             arg = args[at];
         }
-        work = works::turn(work, arg, table, lent, text, out);
+        work = turns::turn(work, arg, table, lent, text, out);
     }
     work.answer
 }
@@ -47,7 +46,7 @@ pub fn make_command_line_of(
     force_quotes: bool,
     out: &mut [u16],
 ) -> Built
-    ensures { λ r. ⌜ Answered (commandLine «force_quotes» (now (program .entry)) (flatOf (now (args .entry))) (now (text .entry)) (length (now (out .entry)))) r (now (out .entry)) (now (out .exit)) ⌝ }
+    ensures { λ r. ⌜ Answered (commandLine «force_quotes» (now (program .entry)) (flatOf (now (args .entry))) (now (text .entry)) (length (now (out .entry)))) (builtSaid r) (now (out .entry)) (now (out .exit)) ⌝ }
 {
     make_line_of(false, program, args, text, force_quotes, out)
 }
@@ -60,7 +59,7 @@ pub fn make_bat_command_line_of(
     force_quotes: bool,
     out: &mut [u16],
 ) -> Built
-    ensures { λ r. ⌜ Answered (batchCommandLine «force_quotes» (now (script .entry)) (flatOf (now (args .entry))) (now (text .entry)) (length (now (out .entry)))) r (now (out .entry)) (now (out .exit)) ⌝ }
+    ensures { λ r. ⌜ Answered (batchCommandLine «force_quotes» (now (script .entry)) (flatOf (now (args .entry))) (now (text .entry)) (length (now (out .entry)))) (builtSaid r) (now (out .entry)) (now (out .exit)) ⌝ }
 {
     make_line_of(true, script, args, text, force_quotes, out)
 }
@@ -73,7 +72,7 @@ pub fn make_command_line_of_four(
     force_quotes: bool,
     out: &mut [u16],
 ) -> Built
-    ensures { λ r. ⌜ Answered (commandLine «force_quotes» (now (program .entry)) (flatOf args) (now (text .entry)) (length (now (out .entry)))) r (now (out .entry)) (now (out .exit)) ⌝ }
+    ensures { λ r. ⌜ Answered (commandLine «force_quotes» (now (program .entry)) (flatOf args) (now (text .entry)) (length (now (out .entry)))) (builtSaid r) (now (out .entry)) (now (out .exit)) ⌝ }
 {
     make_command_line_of(program, &args, text, force_quotes, out)
 }
@@ -86,7 +85,7 @@ pub fn make_bat_command_line_of_four(
     force_quotes: bool,
     out: &mut [u16],
 ) -> Built
-    ensures { λ r. ⌜ Answered (batchCommandLine «force_quotes» (now (script .entry)) (flatOf args) (now (text .entry)) (length (now (out .entry)))) r (now (out .entry)) (now (out .exit)) ⌝ }
+    ensures { λ r. ⌜ Answered (batchCommandLine «force_quotes» (now (script .entry)) (flatOf args) (now (text .entry)) (length (now (out .entry)))) (builtSaid r) (now (out .entry)) (now (out .exit)) ⌝ }
 {
     make_bat_command_line_of(script, &args, text, force_quotes, out)
 }

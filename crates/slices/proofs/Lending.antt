@@ -1,4 +1,4 @@
--- A function that lends four records, which it is passed by value, to an entry of `listing` as a slice, with all else that it is passed: a walk of its MIR, by hand, for both kinds of line.
+-- A function that lends four records, which it is passed by value, to an entry of `slices` as a slice, with all else that it is passed: a walk of its MIR, by hand, for both kinds of line.
 -- All that the proof knows of the entry is that it meets its contract. Nothing is had at exit of what was passed; `out` is given up.
 -- Assumes nothing.
 use mathlib.Core.Path.{_≡_, refl, sym, subst}
@@ -46,17 +46,17 @@ use denote.Triple.Walked.{says, Stays, stay-dropped, gave-slice, walkOf, goes-dr
 use denote.Exit.{yes}
 use Rattle.rules.specs.declared.Arg.{Arg}
 use Rattle.rules.specs.declared.Built.{Built}
-use Rattle.rules.specs.Answer.{Answered}
+use Rattle.rules.specs.Answer.{builtSaid, Answered}
+use Rattle.rules.specs.Building.{eitherLine}
 use Rattle.rules.specs.Record.{flatOf}
 use Rattle.rules.proofs.Arg as T
 use Rattle.rules.proofs.Arg.Laws as T′
 use Rattle.rules.proofs.Built as B
 use Rattle.rules.proofs.Built.Laws as B′
-use Rattle.listing.specs.Either.{eitherLine}
-use Rattle.listing.proofs.Shapes.{unitsTy, argsTy, outTy, outPtr, arrayTy, arrayPtr, built-typed, array-lies, array-leaves}
-use Rattle.listing.proofs.Passing.{either-clauses}
-use Rattle.listing.proofs.make_command_line_of as entry
-use Rattle.listing.proofs.make_command_line_of_four as four
+use Rattle.slices.proofs.Shapes.{unitsTy, argsTy, outTy, outPtr, arrayTy, arrayPtr, built-typed, array-lies, array-leaves}
+use Rattle.slices.proofs.Passing.{either-clauses}
+use Rattle.slices.proofs.make_command_line_of as entry
+use Rattle.slices.proofs.make_command_line_of_four as four
 
 -- ---- the function
 
@@ -114,7 +114,7 @@ module _ {M : Type 1} (𝓤 : URA M) (H : Heap 𝓤) (A : Atoms 𝓤) (mem″ : 
   four-clauses batch κs a = record {
     ghost = Unit {0};
     requires = λ _. emp 𝓤;
-    ensures = λ _ r e. fact 𝓤 (Answered (eitherLine batch (a .1 .1 .1 .0) (a .0 .now) (flatOf (a .1 .0)) (a .1 .1 .0 .now) (length (a .1 .1 .1 .1 .0 .now))) r (a .1 .1 .1 .1 .0 .now) (e .1 .1 .1 .1 .0 .now));
+    ensures = λ _ r e. fact 𝓤 (Answered (eitherLine batch (a .1 .1 .1 .0) (a .0 .now) (flatOf (a .1 .0)) (a .1 .1 .0 .now) (length (a .1 .1 .1 .1 .0 .now))) (builtSaid r) (a .1 .1 .1 .1 .0 .now) (e .1 .1 .1 .1 .0 .now));
   }
 
 module _ {M : Type 1} (𝓤 : URA M) (H : Heap 𝓤) (A : Atoms 𝓤) (W : Given 𝓤 H A) (mem″ : Memory → SProp 𝓤) (run : Routine → Fun 𝓤) (batch : Bool)
@@ -150,7 +150,7 @@ module _ {M : Type 1} (𝓤 : URA M) (H : Heap 𝓤) (A : Atoms 𝓤) (W : Given
 
   -- the contract, of an answer and the last units of out
   abbrev Says : Built → List ℕ → Type 0
-  Says r zs = Answered (eitherLine batch force (lent .now) (flatOf xs) (text .now) (length (out .now))) r (out .now) zs
+  Says r zs = Answered (eitherLine batch force (lent .now) (flatOf xs) (text .now) (length (out .now))) (builtSaid r) (out .now) zs
 
   -- the tokens
   abbrev Toks : Item 𝓤

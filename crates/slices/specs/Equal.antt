@@ -6,28 +6,10 @@ use mathlib.Core.List.{List, [], _∷_, map}
 use lib.ListN.{length}
 use Rattle.rules.specs.declared.Arg.{Arg}
 use Rattle.rules.specs.declared.Built.{Built}
-use Rattle.rules.specs.Answer.{Answered}
-use Rattle.rules.specs.Record.{Lent, whole, wholes, argumentRecords, flatOf}
-use Rattle.laws.specs.Answer.{answered-once}
-use Rattle.building.specs.Passes.{recordsOf}
-use Rattle.listing.specs.Either.{eitherLine}
-
--- the flat list of records holds these records, and no cut one
-pub flat-records : (args : List Arg) → argumentRecords (flatOf args) ≡ map whole args
-unfolding argumentRecords flatOf
-flat-records [] = refl
-flat-records (a ∷ args) = ap (λ (more : List (Lent Arg)). whole a ∷ more) (flat-records args)
-
--- whole records are those that they were made of
-wholes-of : (args : List Arg) → wholes (map whole args) ≡ args
-unfolding wholes
-wholes-of [] = refl
-wholes-of (a ∷ args) = ap (λ (more : List Arg). a ∷ more) (wholes-of args)
-
--- so the whole records of the flat list are the records
-pub flat-back : (args : List Arg) → recordsOf (flatOf args) ≡ args
-unfolding recordsOf
-flat-back args = rw (flat-records args, wholes-of args)
+use Rattle.rules.specs.Answer.{builtSaid, Answered}
+use Rattle.rules.specs.Building.{eitherLine}
+use Rattle.rules.specs.Record.{whole, argumentRecords, flatOf}
+use Rattle.laws.specs.Answer.{built-one, answered-once}
 
 -- the numbers of a flat list that holds whole records alone are those records' numbers
 pub flat-only : (numbers : List ℕ) (args : List Arg) → argumentRecords numbers ≡ map whole args → numbers ≡ flatOf args
@@ -50,8 +32,8 @@ flat-only (k ∷ s ∷ l ∷ more) (a ∷ args) e =
 
 -- for every list of records and every flat list that holds them: what the contract of an entry over a slice allows and what that of the flat entry allows are one answer and one content of lent memory
 pub same-answers : (batch force : Bool) (lent : List ℕ) (args : List Arg) (numbers text before : List ℕ) → argumentRecords numbers ≡ map whole args → {r r′ : Built} {after after′ : List ℕ}
-    → Answered (eitherLine batch force lent (flatOf args) text (length before)) r before after
-    → Answered (eitherLine batch force lent numbers text (length before)) r′ before after′
+    → Answered (eitherLine batch force lent (flatOf args) text (length before)) (builtSaid r) before after
+    → Answered (eitherLine batch force lent numbers text (length before)) (builtSaid r′) before after′
     → (r ≡ r′) × (after ≡ after′)
 same-answers batch force lent args numbers text before holds {r} {r′} {after} {after′} thin flat =
-    answered-once (eitherLine batch force lent (flatOf args) text (length before)) before r r′ after after′ thin (rw (flat-only numbers args holds) at flat)
+    answered-once built-one (eitherLine batch force lent (flatOf args) text (length before)) before r r′ after after′ thin (rw (flat-only numbers args holds) at flat)

@@ -1,4 +1,4 @@
--- A function that hands all that it is passed on to `listing::make_line_of`, with the kind of line in front: a walk of its MIR, by hand, for both kinds.
+-- A function that hands all that it is passed on to `slices::make_line_of`, with the kind of line in front: a walk of its MIR, by hand, for both kinds.
 -- All that the proof knows of `make_line_of` is that it meets its contract. Nothing is had at exit of what was passed; `out` is given up.
 -- Assumes nothing.
 use mathlib.Core.Path.{_≡_, refl}
@@ -37,16 +37,16 @@ use denote.Triple.Walked.{says, Stays, stay-dropped, gave-slice, walkOf, goes-dr
 use denote.Exit.{yes}
 use Rattle.rules.specs.declared.Arg.{Arg}
 use Rattle.rules.specs.declared.Built.{Built}
-use Rattle.rules.specs.Answer.{Answered}
+use Rattle.rules.specs.Answer.{builtSaid, Answered}
+use Rattle.rules.specs.Building.{eitherLine}
 use Rattle.rules.specs.Record.{flatOf}
 use Rattle.rules.proofs.Arg as T
 use Rattle.rules.proofs.Built as B
 use Rattle.rules.proofs.Built.Laws as B′
-use Rattle.listing.specs.Either.{eitherLine}
-use Rattle.listing.proofs.Shapes.{unitsTy, argsTy, outTy, outPtr, built-typed}
-use Rattle.listing.proofs.make_line_of as all
-use Rattle.listing.proofs.make_line_of.Symbol.{name as #listing·make-line-of}
-use Rattle.listing.proofs.make_command_line_of as entry
+use Rattle.slices.proofs.Shapes.{unitsTy, argsTy, outTy, outPtr, built-typed}
+use Rattle.slices.proofs.make_line_of as all
+use Rattle.slices.proofs.make_line_of.Symbol.{name as #slices·make-line-of}
+use Rattle.slices.proofs.make_command_line_of as entry
 
 -- ---- the function
 
@@ -64,7 +64,7 @@ passing batch = record {
   locals = local B′.mir valueLocal ∷ local (unitsTy (named 0)) valueLocal ∷ local (argsTy (named 1)) valueLocal ∷ local (unitsTy (named 2)) valueLocal ∷ local tyBool valueLocal ∷ local (outTy (named 3)) valueLocal ∷ local outPtr valueLocal ∷ local (outTy erased) valueLocal ∷ [];
   body = seq (assign (place 6 []) (addrOf (place 5 (field 0 ∷ deref (tyInt w16) ∷ []))))
       (seq (assign (place 7 []) (aggregate (copy (place 6 []) ∷ copy (place 5 (field 1 ∷ [])) ∷ [])))
-      (seq (call #listing·make-line-of (kind batch ∷ copy (place 1 []) ∷ copy (place 2 []) ∷ copy (place 3 []) ∷ copy (place 4 []) ∷ copy (place 7 []) ∷ []) (place 0 [])) return));
+      (seq (call #slices·make-line-of (kind batch ∷ copy (place 1 []) ∷ copy (place 2 []) ∷ copy (place 3 []) ∷ copy (place 4 []) ∷ copy (place 7 []) ∷ []) (place 0 [])) return));
 }
 
 -- what the function still has of its parameters at exit
@@ -93,7 +93,7 @@ module _ {M : Type 1} (𝓤 : URA M) (H : Heap 𝓤) (A : Atoms 𝓤) (mem″ : 
   either-clauses batch κs a = record {
     ghost = Unit {0};
     requires = λ _. emp 𝓤;
-    ensures = λ _ r e. fact 𝓤 (Answered (eitherLine batch (a .1 .1 .1 .0) (a .0 .now) (flatOf (a .1 .0 .now)) (a .1 .1 .0 .now) (length (a .1 .1 .1 .1 .0 .now))) r (a .1 .1 .1 .1 .0 .now) (e .1 .1 .1 .1 .0 .now));
+    ensures = λ _ r e. fact 𝓤 (Answered (eitherLine batch (a .1 .1 .1 .0) (a .0 .now) (flatOf (a .1 .0 .now)) (a .1 .1 .0 .now) (length (a .1 .1 .1 .1 .0 .now))) (builtSaid r) (a .1 .1 .1 .1 .0 .now) (e .1 .1 .1 .1 .0 .now));
   }
 
 module _ {M : Type 1} (𝓤 : URA M) (H : Heap 𝓤) (A : Atoms 𝓤) (W : Given 𝓤 H A) (mem″ : Memory → SProp 𝓤) (run : Routine → Fun 𝓤) (batch : Bool)
@@ -125,7 +125,7 @@ module _ {M : Type 1} (𝓤 : URA M) (H : Heap 𝓤) (A : Atoms 𝓤) (W : Given
 
   -- the contract, of an answer and the last units of out
   abbrev Says : Built → List ℕ → Type 0
-  Says r zs = Answered (eitherLine batch force (lent .now) (flatOf (args .now)) (text .now) (length (out .now))) r (out .now) zs
+  Says r zs = Answered (eitherLine batch force (lent .now) (flatOf (args .now)) (text .now) (length (out .now))) (builtSaid r) (out .now) zs
 
   -- the tokens
   abbrev Toks : Item 𝓤
@@ -157,7 +157,7 @@ module _ {M : Type 1} (𝓤 : URA M) (H : Heap 𝓤) (A : Atoms 𝓤) (W : Given
   kind-is t false = false-lit t
 
   -- the MIR from the entry to the exit
-  walk : (𝓣 : Tables 𝓤 H) → Triple 𝓤 (𝓣 .C #listing·make-line-of) (Made 𝓤 H A mem″ run)
+  walk : (𝓣 : Tables 𝓤 H) → Triple 𝓤 (𝓣 .C #slices·make-line-of) (Made 𝓤 H A mem″ run)
       → ent 𝓤 (onEntry 𝓤 H A entry.signature Lives Held Passed Bound) (WpFn 𝓤 H (𝓣 .C) (𝓣 .Λ) (passing batch) Vs Post)
   walk 𝓣 known =
       qed W (Toks ∷ Owns ∷ []) ∵ enter ! (𝓣 .C) (𝓣 .Λ) (passing batch) Vs _ $
@@ -184,7 +184,7 @@ module _ {M : Type 1} (𝓤 : URA M) (H : Heap 𝓤) (A : Atoms 𝓤) (W : Given
       Lastly : Type 0
       Lastly = Unit {0} × (Unit {0} × (Unit {0} × (Unit {0} × (Unit {0} × (List ℕ × Unit {0})))))
 
-module _ {M : Type 1} (𝓤 : URA M) (H : Heap 𝓤) (A : Atoms 𝓤) (W : Given 𝓤 H A) (mem″ : Memory → SProp 𝓤) (run : Routine → Fun 𝓤) (batch : Bool) (𝓣 : Tables 𝓤 H) (known : Triple 𝓤 (𝓣 .C #listing·make-line-of) (Made 𝓤 H A mem″ run)) where
+module _ {M : Type 1} (𝓤 : URA M) (H : Heap 𝓤) (A : Atoms 𝓤) (W : Given 𝓤 H A) (mem″ : Memory → SProp 𝓤) (run : Routine → Fun 𝓤) (batch : Bool) (𝓣 : Tables 𝓤 H) (known : Triple 𝓤 (𝓣 .C #slices·make-line-of) (Made 𝓤 H A mem″ run)) where
   -- the walk, for all parameters
   walks : Walks 𝓤 H A entry.ended stayed (WpFn 𝓤 H (𝓣 .C) (𝓣 .Λ) (passing batch)) (either-clauses 𝓤 H A mem″ run batch)
   walks = walked 𝓤 H A entry.ended stayed (either-clauses 𝓤 H A mem″ run batch) (WpFn 𝓤 H (𝓣 .C) (𝓣 .Λ) (passing batch))

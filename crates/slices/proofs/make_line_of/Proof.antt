@@ -1,4 +1,4 @@
--- `listing::make_line_of` meets its contract: a walk of its MIR, by hand, with one loop that calls `works::turn` each turn.
+-- `slices::make_line_of` meets its contract: a walk of its MIR, by hand, with one loop that calls `building::turns::turn` each turn.
 -- All that the proof knows of its callees is that each meets its contract. `args` and `out` are opened once, before the loop, and shut after it; `out`'s units are lent to each call, and come back.
 -- Assumes nothing.
 use mathlib.Core.Path.{_≡_, refl, sym, _∙_, ap, subst}
@@ -55,7 +55,9 @@ use denote.Triple.Walked.{says, Stays, stay-dropped, stay-slice, walkOf, goes-dr
 use denote.Exit.{yes}
 use Rattle.rules.specs.declared.Arg.{Arg}
 use Rattle.rules.specs.declared.Built.{Built}
-use Rattle.rules.specs.Answer.{Answered}
+use Rattle.rules.specs.Answer.{builtSaid, Answered}
+use Rattle.rules.specs.Building.{eitherLine}
+use Rattle.rules.specs.Outcome.{Outcome}
 use Rattle.rules.specs.Record.{flatOf}
 use Rattle.rules.proofs.Arg as T
 use Rattle.rules.proofs.Arg.Laws as T′
@@ -66,26 +68,26 @@ use Rattle.units.proofs.classes.classes as cls
 use Rattle.units.proofs.classes.classes.Symbol as cls-def
 use Rattle.units.proofs.classes.classes.Symbol.{name as #units·classes·classes}
 use Rattle.units.proofs.classes.classes.Met as cls-thm
-use Rattle.listing.specs.declared.works.Work.{Work}
-use Rattle.listing.specs.Either.{eitherLine}
-use Rattle.listing.specs.Works.{begun, Turned}
-use Rattle.listing.proofs.Shapes.{unitsTy, argsTy, outTy, outPtr, arrayTy, arrayPtr, built-typed, array-lies, array-leaves}
-use Rattle.listing.proofs.Onward.{Held as Came, comes, Stands, noArg, turnsLeft, turns as turned-on, stands-first, stands-last, first-answered}
-use Rattle.listing.proofs.works.Work as S
-use Rattle.listing.proofs.works.Work.Laws as S′
-use Rattle.listing.proofs.works.begin as beg
-use Rattle.listing.proofs.works.begin.Symbol as beg-def
-use Rattle.listing.proofs.works.begin.Symbol.{name as #listing·works·begin}
-use Rattle.listing.proofs.works.begin.Met as beg-thm
-use Rattle.listing.proofs.works.turn as one
-use Rattle.listing.proofs.works.turn.Symbol as one-def
-use Rattle.listing.proofs.works.turn.Symbol.{name as #listing·works·turn}
-use Rattle.listing.proofs.works.turn.Met as one-thm
-use Rattle.listing.proofs.make_line_of.Key.{name as #listing·make-line-of}
-use Rattle.listing.proofs.make_line_of as all
-use Rattle.listing.proofs.make_line_of.Statement as stated
-use Rattle.listing.proofs.make_line_of.Code as code
-use Rattle.listing.proofs.make_line_of.Code.Mir as body
+use Rattle.building.specs.declared.works.Work.{Work}
+use Rattle.building.specs.Records.{noArg}
+use Rattle.building.specs.Works.{begunAt, Turned}
+use Rattle.building.specs.Turns.{Stands, turnsLeft, turns as turned-on, stands-begun, stands-last}
+use Rattle.slices.proofs.Shapes.{unitsTy, argsTy, outTy, outPtr, arrayTy, arrayPtr, built-typed, array-lies, array-leaves}
+use Rattle.building.proofs.works.Work as S
+use Rattle.building.proofs.works.Work.Laws as S′
+use Rattle.building.proofs.works.begin as beg
+use Rattle.building.proofs.works.begin.Symbol as beg-def
+use Rattle.building.proofs.works.begin.Symbol.{name as #building·works·begin}
+use Rattle.building.proofs.works.begin.Met as beg-thm
+use Rattle.building.proofs.turns.turn as one
+use Rattle.building.proofs.turns.turn.Symbol as one-def
+use Rattle.building.proofs.turns.turn.Symbol.{name as #building·turns·turn}
+use Rattle.building.proofs.turns.turn.Met as one-thm
+use Rattle.slices.proofs.make_line_of.Key.{name as #slices·make-line-of}
+use Rattle.slices.proofs.make_line_of as all
+use Rattle.slices.proofs.make_line_of.Statement as stated
+use Rattle.slices.proofs.make_line_of.Code as code
+use Rattle.slices.proofs.make_line_of.Code.Mir as body
 
 -- ---- types and values
 
@@ -114,7 +116,7 @@ abbrev calling : Body
 calling =
     seq (assign (place 19 []) (addrOf (place 6 (field 0 ∷ deref (tyInt w16) ∷ []))))
     (seq (assign (place 20 []) (aggregate (copy (place 19 []) ∷ copy (place 6 (field 1 ∷ [])) ∷ [])))
-    (call #listing·works·turn (copy (place 9 []) ∷ copy (place 11 []) ∷ copy (place 8 []) ∷ copy (place 2 []) ∷ copy (place 4 []) ∷ copy (place 20 []) ∷ []) (place 9 [])))
+    (call #building·turns·turn (copy (place 9 []) ∷ copy (place 11 []) ∷ copy (place 8 []) ∷ copy (place 2 []) ∷ copy (place 4 []) ∷ copy (place 20 []) ∷ []) (place 9 [])))
 
 -- what the function still has of its parameters at exit
 abbrev stayed : Stays (all.ended .signature .params) (all.ended .kept)
@@ -150,12 +152,12 @@ module _ {M : Type 1} (𝓤 : URA M) (H : Heap 𝓤) (A : Atoms 𝓤) (mem″ : 
   Turn = tripleOf 𝓤 H A one.signature (one.spec 𝓤 H A mem″ run)
 
 -- where the loop stands: the work so far, and what `out` holds
-record Upto (lent text : List ℕ) (xs : List Arg) (first : Came) (d : List ℕ) : Type 0 where
+record Upto (o : Outcome (List ℕ)) (lent text : List ℕ) (xs : List Arg) (d : List ℕ) : Type 0 where
   w : Work
   zs : List ℕ
   ok : Is S.the-row w (work-val w ∷ [])
   len : length zs ≡ length d
-  stands : Stands lent text xs first w zs
+  stands : Stands o lent text xs d w zs
 
 module _ {M : Type 1} (𝓤 : URA M) (H : Heap 𝓤) (A : Atoms 𝓤) (W : Given 𝓤 H A) (mem″ : Memory → SProp 𝓤) (run : Routine → Fun 𝓤)
     (κ₀ κ₁ κ₂ κ₃ : Lft) (q₀ q₁ q₂ q₃ : Share) (batch force : Bool) (lent : RefT (List ℕ)) (args : RefT (List Arg)) (text out : RefT (List ℕ))
@@ -177,12 +179,12 @@ module _ {M : Type 1} (𝓤 : URA M) (H : Heap 𝓤) (A : Atoms 𝓤) (W : Given
   Bound = (vbool batch ∷ [], (slice-vals lent, (slice-vals args, (slice-vals text, (vbool force ∷ [], (slice-vals out, tt))))))
 
   -- what building comes to
-  abbrev came : Came
-  came = comes (lent .now) (text .now) xs (begun batch force n) d
+  abbrev came : Outcome (List ℕ)
+  came = eitherLine batch force (lent .now) (flatOf xs) (text .now) (length d)
 
   -- where the loop stands
   abbrev Up : Type 0
-  Up = Upto (lent .now) (text .now) xs came d
+  Up = Upto came (lent .now) (text .now) xs d
 
   -- what is to hold at exit
   abbrev Post : Val → SProp 𝓤
@@ -236,12 +238,8 @@ module _ {M : Type 1} (𝓤 : URA M) (H : Heap 𝓤) (A : Atoms 𝓤) (W : Given
       nothing ! $ move ! (1 ∷ 0 ∷ []) $ fjoin ! $ nothing ! $ fjoin ! $ nothing ! $ fjoin ! $ nothing ! $ fjoin ! $ nothing ! $ fjoin ! $ nothing ! $ fjoin ! $
       owned ! B.the-row (Is B.the-row) (EL.makes B.the-type B′.the-plain 𝓤 H A) (t .w .answer) (built-val (t .w .answer) ∷ []) (answer-is t) $ move ! (1 ∷ 0 ∷ []) $ done !
     where
-      answered : Answered (eitherLine batch force (lent .now) (flatOf xs) (text .now) (length d)) (t .w .answer) d (t .zs)
-      answered =
-          let s = stands-last (t .stands) e in
-          subst (λ (r : Built). Answered (eitherLine batch force (lent .now) (flatOf xs) (text .now) (length d)) r d (t .zs)) (s .0)
-          (subst (λ (ys : List ℕ). Answered (eitherLine batch force (lent .now) (flatOf xs) (text .now) (length d)) (came .answer) d ys) (s .1)
-          (first-answered batch force (lent .now) (text .now) xs d))
+      answered : Answered came (builtSaid (t .w .answer)) d (t .zs)
+      answered = stands-last came (lent .now) (text .now) xs d (t .stands) e
 
   -- ---- the call of a turn
   -- what `turn`'s triple binds outside: out's units lent for the lifetime ν, under the name δ
@@ -269,14 +267,18 @@ module _ {M : Type 1} (𝓤 : URA M) (H : Heap 𝓤) (A : Atoms 𝓤) (W : Given
       owned ! S.the-row (Is S.the-row) (LL.makes S.the-type S′.the-plain 𝓤 H A) w (work-val w ∷ []) is-w $ fjoin ! $ done !
 
   -- ---- the loop
+  -- how many turns are left
+  abbrev left : Work → ℕ
+  left w = turnsLeft came (lent .now) (text .now) xs d w
+
   abbrev Nearer : Up → Up → Type 0
-  Nearer t u = turnsLeft n (t .w) < turnsLeft n (u .w)
+  Nearer t u = left (t .w) < left (u .w)
 
   -- turns do not go on for ever
   Nearer-wf : WellFounded Nearer
-  Nearer-wf = InvImage·wf (λ (t : Up). turnsLeft n (t .w)) (Nat·lt-wfRel .wf)
+  Nearer-wf = InvImage·wf (λ (t : Up). left (t .w)) (Nat·lt-wfRel .wf)
 
-  module _ (𝓣 : Tables 𝓤 H) (known-turn : Triple 𝓤 (𝓣 .C #listing·works·turn) (Turn 𝓤 H A mem″ run)) (q′ : Share) (ν₀ : ℕ) (γ₀ : GName) (cs : List ℕ) (is-table : cs ≡ classTable)
+  module _ (𝓣 : Tables 𝓤 H) (known-turn : Triple 𝓤 (𝓣 .C #building·turns·turn) (Turn 𝓤 H A mem″ run)) (q′ : Share) (ν₀ : ℕ) (γ₀ : GName) (cs : List ℕ) (is-table : cs ≡ classTable)
       (l₀ l₁ l₂ l₃ l₄ l₅ l₆ l₇ l₈ l₉ l₁₀ l₁₁ l₁₂ l₁₃ l₁₄ l₁₅ l₁₆ l₁₇ l₁₈ l₁₉ l₂₀ : ℕ) where
     -- the calls
     abbrev C : Calls 𝓤 H
@@ -352,7 +354,7 @@ module _ {M : Type 1} (𝓤 : URA M) (H : Heap 𝓤) (A : Atoms 𝓤) (W : Given
         forget ! 9 refl $ forget ! 11 refl $ forget ! 19 refl $ forget ! 21 refl $ forget ! 27 refl $ forget ! 29 refl $
         keep ! (8 ∷ 0 ∷ 9 ∷ 10 ∷ 11 ∷ 12 ∷ 13 ∷ 14 ∷ 15 ∷ 16 ∷ 17 ∷ 18 ∷ 19 ∷ 20 ∷ 21 ∷ 22 ∷ 23 ∷ 24 ∷ 25 ∷ 26 ∷ 27 ∷ 28 ∷ 29 ∷ 30 ∷ 31 ∷ 32 ∷ 33 ∷ 34 ∷ 35 ∷ 36 ∷ 37 ∷ 38 ∷ 39 ∷ 40 ∷ 41 ∷ 42 ∷ 43 ∷ 44 ∷ 45 ∷ 46 ∷ 47 ∷ 48 ∷ 49 ∷ 7 ∷ 6 ∷ 5 ∷ 3 ∷ 2 ∷ 4 ∷ 50 ∷ 51 ∷ 52 ∷ 53 ∷ 54 ∷ []) $
         again ! Nearer At t (next r (ws .1 .1 .1 .1 .1 .0) (subst (λ (vs : List Val). Is S.the-row r vs) (LL.tells S.the-type S′.the-laws r (v ∷ []) is) is) (same ∙ t .len) e)
-        (turned-on (lent .now) (text .now) xs came (t .stands) going is-next e .1)))))))))
+        (turned-on came (lent .now) (text .now) xs d (t .stands) going is-next e .1)))))))))
       where
         Lives : ℕ → Lft × (Lft × (Lft × (Lft × Unit {0})))
         Lives ν = (ν₀ ∷ [], (κ₀, (κ₂, (ν ∷ [], tt))))
@@ -372,7 +374,7 @@ module _ {M : Type 1} (𝓤 : URA M) (H : Heap 𝓤) (A : Atoms 𝓤) (W : Given
             fsplit ! $ let-go ! $ fsplit ! $ let-go ! $ fsplit ! $ let-go ! $ fsplit ! $ let-go ! $ fsplit ! $ let-go ! $ fsplit ! $ fsplit ! $ keep ! (0 ∷ []) $ done !
 
         next : (r : Work) (zs : List ℕ) → Is S.the-row r (work-val r ∷ []) → length zs ≡ length d → Says r zs → Up
-        next r zs ok len e = record { w = r; zs = zs; ok = ok; len = len; stands = turned-on (lent .now) (text .now) xs came (t .stands) going is-next e .0 }
+        next r zs ok len e = record { w = r; zs = zs; ok = ok; len = len; stands = turned-on came (lent .now) (text .now) xs d (t .stands) going is-next e .0 }
 
     -- a turn that goes on
     takes : (t : Up) → t .w .going ≡ true → Sq W (At t) (runs C Λ En body.turn-1 (anyQ (Ended t)))
@@ -471,21 +473,21 @@ module _ {M : Type 1} (𝓤 : URA M) (H : Heap 𝓤) (A : Atoms 𝓤) (W : Given
       move ! (1 ∷ 0 ∷ []) $ join ! $ done !
 
   -- it answers the work before the first turn
-  said-begin : (r : Work) → ent 𝓤 (ensured 𝓤 H A beg.ended (beg.clauses 𝓤 H A mem″ run) tt (batch, (force, (n, tt))) tt r) (fact 𝓤 (r ≡ begun batch force n))
-  said-begin r = exE 𝓤 _ (λ ws. snd∗ 𝓤 (sem 𝓤 H A (lasts beg.ended tt (batch, (force, (n, tt))) ws)) (fact 𝓤 (r ≡ begun batch force n)))
+  said-begin : (r : Work) → ent 𝓤 (ensured 𝓤 H A beg.ended (beg.clauses 𝓤 H A mem″ run) tt (batch, (force, (n, tt))) tt r) (fact 𝓤 (r ≡ begunAt batch force n 0))
+  said-begin r = exE 𝓤 _ (λ ws. snd∗ 𝓤 (sem 𝓤 H A (lasts beg.ended tt (batch, (force, (n, tt))) ws)) (fact 𝓤 (r ≡ begunAt batch force n 0)))
 
   -- where the loop begins
-  abbrev start : (r : Work) → Is S.the-row r (work-val r ∷ []) → r ≡ begun batch force n → Up
+  abbrev start : (r : Work) → Is S.the-row r (work-val r ∷ []) → r ≡ begunAt batch force n 0 → Up
   start r ok e = record {
     w = r;
     zs = d;
     ok = ok;
     len = refl;
-    stands = subst (λ (w : Work). Stands (lent .now) (text .now) xs came w d) (sym e) (stands-first batch force (lent .now) (text .now) xs d);
+    stands = subst (λ (w : Work). Stands came (lent .now) (text .now) xs d w d) (sym e) (stands-begun batch force (lent .now) xs (text .now) d);
   }
 
   -- the MIR from the entry to the exit
-  walk : (𝓣 : Tables 𝓤 H) → Triple 𝓤 (𝓣 .C #units·classes·classes) (Classes 𝓤 H A mem″ run) → Triple 𝓤 (𝓣 .C #listing·works·begin) (Begin 𝓤 H A mem″ run) → Triple 𝓤 (𝓣 .C #listing·works·turn) (Turn 𝓤 H A mem″ run)
+  walk : (𝓣 : Tables 𝓤 H) → Triple 𝓤 (𝓣 .C #units·classes·classes) (Classes 𝓤 H A mem″ run) → Triple 𝓤 (𝓣 .C #building·works·begin) (Begin 𝓤 H A mem″ run) → Triple 𝓤 (𝓣 .C #building·turns·turn) (Turn 𝓤 H A mem″ run)
       → ent 𝓤 (onEntry 𝓤 H A all.signature (κ₀, (κ₁, (κ₂, (κ₃, tt)))) (q₀, (q₁, (q₂, (q₃, tt)))) (batch, (lent, (args, (text, (force, (out, tt)))))) Bound)
       (WpFn 𝓤 H (𝓣 .C) (𝓣 .Λ) code.function (vbool batch ∷ sliceVal (lent .ptr) (length (lent .now)) ∷ sliceVal (args .ptr) n ∷ sliceVal (text .ptr) (length (text .now)) ∷ vbool force ∷ sliceVal (out .ptr) (length d) ∷ []) Post)
   walk 𝓣 known-classes known-begin known-turn =
@@ -512,7 +514,7 @@ module _ {M : Type 1} (𝓤 : URA M) (H : Heap 𝓤) (A : Atoms 𝓤) (W : Given
       calls-at ! (fmOf 𝓤 H (W .laws) 𝓣) (Begin 𝓤 H A mem″ run) known-begin to-begin
       (and-then ! (load ! (from ! (stop !)) (look ! 42 refl)) (and-then ! (load ! (from ! (stop !)) (look ! 34 refl)) (and-then ! (load ! (from ! (stop !)) (look ! 19 refl)) (no-more !)))) (λ u.
       use1 W (later (some (λ (r : Work). (‵ ftrue ⊛ ‵ (S.the-row .own r (u ∷ []))) ⊛ raw (ensured 𝓤 H A beg.ended (beg.clauses 𝓤 H A mem″ run) tt (batch, (force, (n, tt))) tt r)))) (id⊢ 𝓤 _) $ await ! tt $ pick ! (λ r.
-      split ! $ move ! (1 ∷ []) $ use1 W (raw (fact 𝓤 (r ≡ begun batch force n))) (said-begin r) $ heard ! (r ≡ begun batch force n) (λ is-begun. split ! $ move ! (1 ∷ []) $
+      split ! $ move ! (1 ∷ []) $ use1 W (raw (fact 𝓤 (r ≡ begunAt batch force n 0))) (said-begin r) $ heard ! (r ≡ begunAt batch force n 0) (λ is-begun. split ! $ move ! (1 ∷ []) $
       peeks ! S.the-row (Is S.the-row) (shows 𝓤 H A S.the-row) r (u ∷ []) (λ is-work. land ! (from ! (stop !)) (init ! 28 refl (work-typed r u is-work)) $
       rewrite ! 28 (λ (x : Val). ‵ (fat fullShare S′.mir l₉ 0 x)) (ap only (LL.tells S.the-type S′.the-laws r (u ∷ []) is-work)) refl $ forget ! 20 refl $ forget ! 22 refl $
       -- the parameters and their tokens are taken apart, out and args are opened
@@ -531,7 +533,7 @@ module _ {M : Type 1} (𝓤 : URA M) (H : Heap 𝓤) (A : Atoms 𝓤) (W : Given
       table-typed cs v is = array-lawful 𝓤 H A W u8 (uint-lawful 𝓤 H A W w8) 256 .typed cs (v ∷ []) is .0
 
 module _ {M : Type 1} (𝓤 : URA M) (H : Heap 𝓤) (A : Atoms 𝓤) (W : Given 𝓤 H A) (mem″ : Memory → SProp 𝓤) (run : Routine → Fun 𝓤) (𝓣 : Tables 𝓤 H)
-    (known-classes : Triple 𝓤 (𝓣 .C #units·classes·classes) (Classes 𝓤 H A mem″ run)) (known-begin : Triple 𝓤 (𝓣 .C #listing·works·begin) (Begin 𝓤 H A mem″ run)) (known-turn : Triple 𝓤 (𝓣 .C #listing·works·turn) (Turn 𝓤 H A mem″ run)) where
+    (known-classes : Triple 𝓤 (𝓣 .C #units·classes·classes) (Classes 𝓤 H A mem″ run)) (known-begin : Triple 𝓤 (𝓣 .C #building·works·begin) (Begin 𝓤 H A mem″ run)) (known-turn : Triple 𝓤 (𝓣 .C #building·turns·turn) (Turn 𝓤 H A mem″ run)) where
   -- the walk, for all parameters
   walks : Walks 𝓤 H A all.ended stayed (WpFn 𝓤 H (𝓣 .C) (𝓣 .Λ) code.function) (all.clauses 𝓤 H A mem″ run)
   walks = walked 𝓤 H A all.ended stayed (all.clauses 𝓤 H A mem″ run) (WpFn 𝓤 H (𝓣 .C) (𝓣 .Λ) code.function)
@@ -566,8 +568,8 @@ pub make-line-of-spec : {M : Type 1} → stated.statement M
 unfolding code.routine tablesOf
 make-line-of-spec 𝓤 H 𝓜 𝓖 𝓡 =
     entered 𝓤 H (tripleOf 𝓤 H (𝓖 .A) all.signature (all.spec 𝓤 H (𝓖 .A) (𝓜 .mem) (𝓡 .run)))
-    (tables 𝓤 H 𝓜 𝓡 code.env .C) (tables 𝓤 H 𝓜 𝓡 code.env .Λ) #listing·make-line-of code.function (code.unfolded 𝓤 H 𝓜 𝓡)
+    (tables 𝓤 H 𝓜 𝓡 code.env .C) (tables 𝓤 H 𝓜 𝓡 code.env .Λ) #slices·make-line-of code.function (code.unfolded 𝓤 H 𝓜 𝓡)
     (meets 𝓤 H (𝓖 .A) (givenOf 𝓤 H 𝓜 𝓖) (𝓜 .mem) (𝓡 .run) (tablesOf 𝓤 H 𝓜 (tables 𝓤 H 𝓜 𝓡 code.env))
     (cited 𝓤 H (Classes 𝓤 H (𝓖 .A) (𝓜 .mem) (𝓡 .run)) 𝓜 𝓡 code.env #units·classes·classes cls-def.routine code.calls-units·classes·classes (cls-thm.met 𝓤 H 𝓜 𝓖 𝓡))
-    (cited 𝓤 H (Begin 𝓤 H (𝓖 .A) (𝓜 .mem) (𝓡 .run)) 𝓜 𝓡 code.env #listing·works·begin beg-def.routine code.calls-listing·works·begin (beg-thm.met 𝓤 H 𝓜 𝓖 𝓡))
-    (cited 𝓤 H (Turn 𝓤 H (𝓖 .A) (𝓜 .mem) (𝓡 .run)) 𝓜 𝓡 code.env #listing·works·turn one-def.routine code.calls-listing·works·turn (one-thm.met 𝓤 H 𝓜 𝓖 𝓡)))
+    (cited 𝓤 H (Begin 𝓤 H (𝓖 .A) (𝓜 .mem) (𝓡 .run)) 𝓜 𝓡 code.env #building·works·begin beg-def.routine code.calls-building·works·begin (beg-thm.met 𝓤 H 𝓜 𝓖 𝓡))
+    (cited 𝓤 H (Turn 𝓤 H (𝓖 .A) (𝓜 .mem) (𝓡 .run)) 𝓜 𝓡 code.env #building·turns·turn one-def.routine code.calls-building·turns·turn (one-thm.met 𝓤 H 𝓜 𝓖 𝓡)))

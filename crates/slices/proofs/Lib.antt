@@ -1,4 +1,3 @@
-pub mod Onward
 pub mod Shapes
 pub mod Passing
 pub mod Lending
