@@ -2,7 +2,7 @@
 use Prim.Native.Nat.{ℕ, suc, _+_, _≤_, _<_}
 use native.Mathlib.Numerals.{add-one}
 use native.Mathlib.Omega.{arith}
-use mathlib.Core.Path.{_≡_, refl, ap, _∙_}
+use mathlib.Core.Path.{_≡_, refl, sym, ap, _∙_}
 use mathlib.Core.Bool.{Bool, true, false}
 use mathlib.Core.List.{List, [], _∷_}
 use lib.Dec.{eqb}
@@ -29,6 +29,19 @@ unequal (x ∷ xs) (y ∷ ys) h = go (eqb x y) (unequal xs ys (λ e. h (ap suc e
     go : (b : Bool) → equal xs ys ≡ false → both b (equal xs ys) ≡ false
     go true g = g
     go false g = refl
+
+-- a list is the same as itself
+equal-self : (xs : List ℕ) → equal xs xs ≡ true
+unfolding equal
+equal-self [] = refl
+equal-self (x ∷ xs) = rw (eq-eqb x x refl, equal-self xs)
+
+-- one list is not two that differ
+pub not-one : {xs ys : List ℕ} → xs ≡ ys → ¬ (equal xs ys ≡ false)
+not-one {xs} {ys} e h =
+    let f : true ≡ false = sym (equal-self ys) ∙ rw e at h in
+    let z : _≡_ {A = ℕ} 0 1 = cc in
+    omega arith
 
 -- i elements are the same, and the lists are if what is left is
 pub record Comparing (xs ys : List ℕ) (i : ℕ) : Type 0 where

@@ -13,13 +13,12 @@ use Rattle.rules.specs.Building.{commandLine, batchCommandLine}
 use Rattle.rules.specs.Block.{environmentBlock}
 use Rattle.rules.specs.Status.{statusOutcome}
 use Rattle.rules.specs.Reading.{reading}
-use Rattle.laws.specs.Order.{unnumbered}
 use Rattle.laws.specs.Told.{Refusing, told-refused, told-unread, Wrote, Gave, told-written, told-given}
-use Rattle.promises.specs.Line.{line-only, line-built}
-use Rattle.promises.specs.BatchLine.{batch-only, batch-built}
-use Rattle.promises.specs.Block.{block-only, block-built}
-use Rattle.promises.specs.Status.{status-only, status-given}
-use Rattle.promises.specs.Reading.{read-only, read-given}
+use Rattle.promises.specs.Line.{line-numbered, line-whole}
+use Rattle.promises.specs.BatchLine.{batch-numbered, batch-whole}
+use Rattle.promises.specs.Block.{block-numbered, block-whole}
+use Rattle.promises.specs.Status.{status-numbered, status-whole}
+use Rattle.promises.specs.Reading.{read-numbered, read-whole}
 
 -- ---- refusals, whichever the entry point
 
@@ -50,36 +49,24 @@ module _ {n : ℕ} {before after : List ℕ} where
   pub line-answer : (force : Bool) (program records text : List ℕ) → let o = commandLine force program records text (length before) in
       Answered o (wrote n) before after → Wrote o n before after
   line-answer force program records text a =
-      told-written _
-      (λ place e. unnumbered (5 ∷ 2 ∷ 4 ∷ []) (1 ∷ 5 ∷ []) place refl refl (line-only force program records text (length before) 0 place e))
-      (λ result e. let (_, (_, (_, (_, (fits, made))))) = line-built force program records text (length before) result .0 e in rw (← made) fits)
-      a
+      told-written _ (line-numbered force program records text (length before)) (λ result e. line-whole force program records text (length before) result e .0) a
 
   -- make_bat_command_line: the answer counts the units of the batch line, which is the front of the output; the rest is kept
   pub batch-answer : (force : Bool) (script records text : List ℕ) → let o = batchCommandLine force script records text (length before) in
       Answered o (wrote n) before after → Wrote o n before after
   batch-answer force script records text a =
-      told-written _
-      (λ place e. unnumbered (7 ∷ 5 ∷ 2 ∷ 4 ∷ []) (1 ∷ 6 ∷ 5 ∷ []) place refl refl (batch-only force script records text (length before) 0 place e))
-      (λ result e. let (_, (_, (_, (_, (_, (fits, made)))))) = batch-built force script records text (length before) result .0 e in rw (← made) fits)
-      a
+      told-written _ (batch-numbered force script records text (length before)) (λ result e. batch-whole force script records text (length before) result e .0) a
 
   -- make_envp: the answer counts the units of the block, which is the front of the output; the rest is kept
   pub block-answer : (records text : List ℕ) → let o = environmentBlock records text (length before) in
       Answered o (wrote n) before after → Wrote o n before after
   block-answer records text a =
-      told-written _
-      (λ place e. unnumbered (2 ∷ 4 ∷ []) (1 ∷ 5 ∷ []) place refl refl (block-only records text (length before) 0 place e))
-      (λ result e. let (_, (_, (_, (fits, made)))) = block-built records text (length before) result .0 e in rw (← made) fits)
-      a
+      told-written _ (block-numbered records text (length before)) (λ result e. block-whole records text (length before) result e .0) a
 
   -- status_text: the answer counts the units of the text, which is the front of the output; the rest is kept
   pub status-answer : (status : ℕ) → let o = statusOutcome status (length before) in Answered o (wrote n) before after → Wrote o n before after
   status-answer status a =
-      told-written _
-      (λ place e. unnumbered (4 ∷ []) [] place refl refl (status-only status (length before) 0 place e))
-      (λ result e. let (fits, made) = status-given status (length before) result .0 e in rw (← made) fits)
-      a
+      told-written _ (status-numbered status (length before)) (λ result e. status-whole status (length before) result e .0) a
 
 -- parse_lp_cmd_line: the answer counts arguments and units; texts and spans are the fronts of output and table, and the rests are kept
 pub parse-answer : (executable lent : List ℕ) {count units : ℕ} {text text′ spans spans′ : List ℕ} →
@@ -87,6 +74,6 @@ pub parse-answer : (executable lent : List ℕ) {count units : ℕ} {text text�
     Read o (Parsed.Arguments count units) text text′ spans spans′ → Gave o count units text text′ spans spans′
 parse-answer executable lent {text = text} {spans = spans} a =
     told-given _
-    (λ place e. unnumbered (2 ∷ 3 ∷ 4 ∷ []) [] place refl refl (read-only executable lent (length text) (length spans) 0 place e))
-    (λ args e. let (_, (places, (fits, made))) = read-given executable lent (length text) (length spans) args .0 e in rw (← made) (fits, places))
+    (read-numbered executable lent (length text) (length spans))
+    (λ args e. let (fits, places, _) = read-whole executable lent (length text) (length spans) args e in (fits, places))
     a

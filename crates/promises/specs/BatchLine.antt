@@ -13,7 +13,7 @@ use Rattle.rules.specs.Record.{Argument, argumentFault, argumentsOf}
 use Rattle.rules.specs.Building.{batchLimit, scriptOf, batchLine, isNoScript, batchFinding, batchCommandLine}
 use Rattle.laws.specs.Fault.{Sound, FirstWrong}
 use Rattle.laws.specs.Finding.{batch-finds}
-use Rattle.laws.specs.Order.{_and_, given, Step, test, most, search-all, only, accepted, refused-test, refused-most, refused-search}
+use Rattle.laws.specs.Order.{_and_, given, unnumbered, Step, test, most, search-all, only, accepted, refused-test, refused-most, refused-search}
 use Rattle.promises.specs.Records.{SoundRecords, FirstWrongRecord, records-step}
 
 module _ (force : Bool) (script records text : List ℕ) (room : ℕ) where
@@ -107,3 +107,11 @@ module _ (force : Bool) (script records text : List ℕ) (room : ℕ) where
       ↔ SoundScript (Sound batchFinding args and (length whole ≤ batchLimit) and (length whole ≤ room) and (whole ≡ result))
   unfolding batchCommandLine argumentFault
   batch-built result = accepted whole (one ∷ seven ∷ five ∷ units ∷ two ∷ four ∷ []) result
+
+  -- no refusal has the number 0
+  pub batch-numbered : (place : ℕ) → ¬ (built ≡ refused 0 place)
+  batch-numbered place e = unnumbered (7 ∷ 5 ∷ 2 ∷ 4 ∷ []) (1 ∷ 6 ∷ 5 ∷ []) place refl refl (batch-only 0 place e)
+
+  -- what is built is the whole, and the output has room for it
+  pub batch-whole : (result : List ℕ) → built ≡ done result → (length result ≤ room) × (whole ≡ result)
+  batch-whole result e = let (_, (_, (_, (_, (_, (fits, made)))))) = batch-built result .0 e in (rw (← made) fits, made)

@@ -11,7 +11,7 @@ use Rattle.rules.specs.Record.{Entry, judged, entryFinding, entryRecords, entry
 use Rattle.rules.specs.Block.{block, blockLimit, entryNulFinding, environmentBlock}
 use Rattle.laws.specs.Fault.{Sound, FirstWrong}
 use Rattle.laws.specs.Finding.{entry-finds, entry-nul-finds}
-use Rattle.laws.specs.Order.{_and_, given, Step, most, search-all, only, accepted, refused-most, refused-search}
+use Rattle.laws.specs.Order.{_and_, given, unnumbered, Step, most, search-all, only, accepted, refused-most, refused-search}
 use Rattle.promises.specs.Records.{SoundEntries, FirstWrongEntry}
 
 module _ (records text : List ℕ) (room : ℕ) where
@@ -78,3 +78,11 @@ module _ (records text : List ℕ) (room : ℕ) where
       ↔ (SoundEntries text records and Sound entryNulFinding entries and (length whole ≤ blockLimit) and (length whole ≤ room) and (whole ≡ result))
   unfolding environmentBlock entryFault
   block-built result = accepted whole (one ∷ nuls ∷ two ∷ four ∷ []) result
+
+  -- no refusal has the number 0
+  pub block-numbered : (place : ℕ) → ¬ (built ≡ refused 0 place)
+  block-numbered place e = unnumbered (2 ∷ 4 ∷ []) (1 ∷ 5 ∷ []) place refl refl (block-only 0 place e)
+
+  -- what is built is the whole, and the output has room for it
+  pub block-whole : (result : List ℕ) → built ≡ done result → (length result ≤ room) × (whole ≡ result)
+  block-whole result e = let (_, (_, (_, (fits, made)))) = block-built result .0 e in (rw (← made) fits, made)

@@ -12,3 +12,6 @@ pub mod OneList
 pub mod Bounds
 pub mod Classes
 pub mod Arguments
+pub mod Worthless
+pub mod EntryPoints
+pub mod Trials

@@ -13,7 +13,7 @@ use Rattle.rules.specs.Record.{Argument, argumentFault, argumentsOf}
 use Rattle.rules.specs.Building.{line, lineLimit, nulFinding, commandLine}
 use Rattle.laws.specs.Fault.{Sound, FirstWrong}
 use Rattle.laws.specs.Finding.{nul-finds}
-use Rattle.laws.specs.Order.{_and_, given, Step, test, most, search-all, only, accepted, refused-test, refused-most, refused-search}
+use Rattle.laws.specs.Order.{_and_, given, unnumbered, Step, test, most, search-all, only, accepted, refused-test, refused-most, refused-search}
 use Rattle.promises.specs.Records.{SoundRecords, FirstWrongRecord, records-step}
 
 module _ (force : Bool) (program records text : List ℕ) (room : ℕ) where
@@ -92,3 +92,11 @@ module _ (force : Bool) (program records text : List ℕ) (room : ℕ) where
       and (whole ≡ result))
   unfolding commandLine argumentFault
   line-built result = accepted whole (one ∷ five ∷ nuls ∷ two ∷ four ∷ []) result
+
+  -- no refusal has the number 0
+  pub line-numbered : (place : ℕ) → ¬ (built ≡ refused 0 place)
+  line-numbered place e = unnumbered (5 ∷ 2 ∷ 4 ∷ []) (1 ∷ 5 ∷ []) place refl refl (line-only 0 place e)
+
+  -- what is built is the whole, and the output has room for it
+  pub line-whole : (result : List ℕ) → built ≡ done result → (length result ≤ room) × (whole ≡ result)
+  line-whole result e = let (_, (_, (_, (_, (fits, made))))) = line-built result .0 e in (rw (← made) fits, made)

@@ -8,7 +8,7 @@ use mathlib.Core.Bool.{true}
 use lib.ListN.{length}
 use Rattle.rules.specs.Outcome.{Outcome, done, refused}
 use Rattle.rules.specs.Reading.{readLimit, argumentsRead, unitsRead, joined, placesOf, reading}
-use Rattle.laws.specs.Order.{_and_, given, Step, most, only, accepted, refused-most}
+use Rattle.laws.specs.Order.{_and_, given, unnumbered, Step, most, only, accepted, refused-most}
 
 module _ (executable lent : List ℕ) (room numbers : ℕ) where
   -- what reading comes to
@@ -64,3 +64,11 @@ module _ (executable lent : List ℕ) (room numbers : ℕ) where
       ↔ ((size ≤ readLimit) and (length args ≤ placesOf numbers) and (length (joined args) ≤ room) and (args ≡ result))
   unfolding reading
   read-given result = accepted args (two ∷ three ∷ four ∷ []) result
+
+  -- no refusal has the number 0
+  pub read-numbered : (place : ℕ) → ¬ (read ≡ refused 0 place)
+  read-numbered place e = unnumbered (2 ∷ 3 ∷ 4 ∷ []) [] place refl refl (read-only 0 place e)
+
+  -- what is given is what is read, and output and table have room for it
+  pub read-whole : (result : List (List ℕ)) → read ≡ done result → (length (joined result) ≤ room) × (length result ≤ placesOf numbers) × (args ≡ result)
+  read-whole result e = let (_, (places, (fits, made))) = read-given result .0 e in (rw (← made) fits, rw (← made) places, made)

@@ -8,7 +8,7 @@ use mathlib.Core.List.{List, [], _∷_}
 use lib.ListN.{length}
 use Rattle.rules.specs.Outcome.{Outcome, done, refused}
 use Rattle.rules.specs.Status.{statusText, statusOutcome}
-use Rattle.laws.specs.Order.{_and_, given, Step, most, only, accepted, refused-most}
+use Rattle.laws.specs.Order.{_and_, given, unnumbered, Step, most, only, accepted, refused-most}
 
 module _ (status room : ℕ) where
   -- what asking for the text comes to
@@ -33,3 +33,11 @@ module _ (status room : ℕ) where
   pub status-given : (result : List ℕ) → (told ≡ done result) ↔ ((length (statusText status) ≤ room) and (statusText status ≡ result))
   unfolding statusOutcome
   status-given result = accepted (statusText status) (four ∷ []) result
+
+  -- no refusal has the number 0
+  pub status-numbered : (place : ℕ) → ¬ (told ≡ refused 0 place)
+  status-numbered place e = unnumbered (4 ∷ []) [] place refl refl (status-only 0 place e)
+
+  -- what is given is the whole text, and the output has room for it
+  pub status-whole : (result : List ℕ) → told ≡ done result → (length result ≤ room) × (statusText status ≡ result)
+  status-whole result e = let (fits, made) = status-given result .0 e in (rw (← made) fits, made)
