@@ -67,17 +67,17 @@ module _ (m : Mode) (t : taking m ≡ m) (q : Bool) (rest whole : List ℕ) (R :
 -- ---- where an argument ends
 
 -- what may stand behind an argument: nothing, or a space
-pub data Behind : List ℕ → Type 0 where
-  nothing : Behind []
-  blank : {ys : List ℕ} → Behind (32 ∷ ys)
+pub data EndOrBlank : List ℕ → Type 0 where
+  nothing : EndOrBlank []
+  blank : {ys : List ℕ} → EndOrBlank (32 ∷ ys)
 
-stop : {rest : List ℕ} → Behind rest → (k : ℕ) (cur : List ℕ) (x : ℕ) (xs : List ℕ) → cur ++ slashes k ≡ x ∷ xs
+stop : {rest : List ℕ} → EndOrBlank rest → (k : ℕ) (cur : List ℕ) (x : ℕ) (xs : List ℕ) → cur ++ slashes k ≡ x ∷ xs
     → later outside 0 cur (escaped false k [] ++ rest) ≡ (x ∷ xs) ∷ later between 0 [] rest
 unfolding later escaped
 stop nothing k cur x xs e = simp (run outside refl, e)
 stop blank k cur x xs e = simp (run outside refl, e)
 
-close : {rest : List ℕ} → Behind rest → (k : ℕ) (cur whole : List ℕ) → cur ++ slashes k ≡ whole
+close : {rest : List ℕ} → EndOrBlank rest → (k : ℕ) (cur whole : List ℕ) → cur ++ slashes k ≡ whole
     → later inside 0 cur (escaped true k [] ++ quote ∷ rest) ≡ whole ∷ later between 0 [] rest
 unfolding later escaped
 close nothing k cur whole e = simp (run inside refl, even-run, half-even, e, append-nil)
@@ -108,12 +108,12 @@ begin xs (other p r) h rest = simp (p, r, h)
 
 -- ---- the form
 
-module _ (force : Bool) {rest : List ℕ} (b : Behind rest) where
+module _ (force : Bool) {rest : List ℕ} (b : EndOrBlank rest) where
   -- these units, with the rest behind them, are read as the argument and then the rest
-  abbrev Read : List ℕ → List ℕ → Type 0
-  Read a xs = later between 0 [] (xs ++ rest) ≡ a ∷ later between 0 [] rest
+  abbrev ReadsAs : List ℕ → List ℕ → Type 0
+  ReadsAs a xs = later between 0 [] (xs ++ rest) ≡ a ∷ later between 0 [] rest
 
-  plain-read : (a : List ℕ) → needsQuotes force a ≡ false → Read a (escaped false 0 a)
+  plain-read : (a : List ℕ) → needsQuotes force a ≡ false → ReadsAs a (escaped false 0 a)
   unfolding needsQuotes later
   plain-read [] e = let z : true ≡ false = apart true force _ e .1 in cc
   plain-read (x ∷ xs) e =
@@ -121,7 +121,7 @@ module _ (force : Bool) {rest : List ℕ} (b : Behind rest) where
       begin xs (kind x) (apart true (isBlank x) _ h .0) rest
       ∙ body outside refl false rest (x ∷ xs) _ (λ k cur e. stop b k cur x xs e) (x ∷ xs) h 0 [] refl
 
-  quoted-read : (a : List ℕ) → Read a (enclosed (escaped true 0 a))
+  quoted-read : (a : List ℕ) → ReadsAs a (enclosed (escaped true 0 a))
   unfolding later
   quoted-read a =
       rw (append-assoc (escaped true 0 a)) (body inside refl true (quote ∷ rest) a _ (λ k cur e. close b k cur a e) a refl 0 [] refl)
@@ -131,6 +131,6 @@ module _ (force : Bool) {rest : List ℕ} (b : Behind rest) where
   unfolding form
   form-read a = go (needsQuotes force a) refl
     where
-      go : (q : Bool) → needsQuotes force a ≡ q → Read a (pick q ((enclosed (escaped true 0 a))) (escaped false 0 a))
+      go : (q : Bool) → needsQuotes force a ≡ q → ReadsAs a (pick q ((enclosed (escaped true 0 a))) (escaped false 0 a))
       go true e = quoted-read a
       go false e = plain-read a e

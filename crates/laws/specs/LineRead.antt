@@ -10,7 +10,7 @@ use Rattle.rules.specs.Record.{Argument, isRegular}
 use Rattle.rules.specs.Building.{written, tail, line}
 use Rattle.rules.specs.Reading.{between, later, argument0, behind0, arguments}
 use Rattle.laws.specs.Choice.{apart}
-use Rattle.laws.specs.FormRead.{Behind, nothing, blank, form-read}
+use Rattle.laws.specs.FormRead.{EndOrBlank, nothing, blank, form-read}
 
 -- the test that an argument is not a regular one
 abbrev pub isRaw : Argument → Bool
@@ -20,7 +20,7 @@ isRaw a = flip (isRegular (a .kind))
 abbrev pub contents : List Argument → List (List ℕ)
 contents args = map (λ a. a .content) args
 
-behind : (rule : Bool → List ℕ → List ℕ) (force : Bool) (args : List Argument) → Behind (tail rule force args)
+behind : (rule : Bool → List ℕ → List ℕ) (force : Bool) (args : List Argument) → EndOrBlank (tail rule force args)
 behind rule force [] = nothing
 behind rule force (a ∷ args) = blank
 
@@ -38,13 +38,13 @@ tail-read force (a ∷ args) h =
     let (e, h′) = apart true (isRaw a) (any isRaw args) h in
     rw (regular-form form force a e, form-read force (behind form force args), tail-read force args h′)
 
-name-read : (p : List ℕ) → any isQuote p ≡ false → {rest : List ℕ} → Behind rest → argument0 true (p ++ quote ∷ rest) ≡ p
+name-read : (p : List ℕ) → any isQuote p ≡ false → {rest : List ℕ} → EndOrBlank rest → argument0 true (p ++ quote ∷ rest) ≡ p
 unfolding argument0
 name-read [] h nothing = refl
 name-read [] h blank = refl
 name-read (x ∷ xs) h b = let (e, h′) = apart true (isQuote x) (any isQuote xs) h in rw (e, name-read xs h′ b)
 
-after-read : (p : List ℕ) → any isQuote p ≡ false → {rest : List ℕ} → Behind rest → later between 0 [] (behind0 true (p ++ quote ∷ rest)) ≡ later between 0 [] rest
+after-read : (p : List ℕ) → any isQuote p ≡ false → {rest : List ℕ} → EndOrBlank rest → later between 0 [] (behind0 true (p ++ quote ∷ rest)) ≡ later between 0 [] rest
 unfolding behind0 later
 after-read [] h nothing = refl
 after-read [] h blank = refl

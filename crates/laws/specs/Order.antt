@@ -61,19 +61,19 @@ onto [] more = more
 onto (s ∷ steps) more = step s (onto steps more)
 
 -- every step lets pass, and then
-abbrev pub Passed : List Step → Type 0 → Type 0
-Passed [] X = X
-Passed (s ∷ steps) X = Passes s and Passed steps X
+abbrev pub PassedAll : List Step → Type 0 → Type 0
+PassedAll [] X = X
+PassedAll (s ∷ steps) X = Passes s and PassedAll steps X
 
 -- the numbers that the steps give at place 0
-abbrev pub bare : List Step → List ℕ
-bare [] = []
-bare (s ∷ steps) = bareOf s ++ bare steps
+abbrev pub bareOfAll : List Step → List ℕ
+bareOfAll [] = []
+bareOfAll (s ∷ steps) = bareOf s ++ bareOfAll steps
 
 -- the numbers that the steps give at a record's place
-abbrev pub placed : List Step → List ℕ
-placed [] = []
-placed (s ∷ steps) = placedOf s ++ placed steps
+abbrev pub placedOfAll : List Step → List ℕ
+placedOfAll [] = []
+placedOfAll (s ∷ steps) = placedOf s ++ placedOfAll steps
 
 -- ---- what can be given
 
@@ -104,24 +104,24 @@ unnumbered bs ps place h g = go (eqb place 0)
 -- ---- one step
 
 -- a step lets pass, or gives a refusal that it can give
-data Turn (s : Step) {A : Type 0} (more : Outcome A) : Type 0 where
-  lets : Passes s → step s more ≡ more → Turn s more
-  stops : (n p : ℕ) → given (bareOf s) (placedOf s) n p ≡ true → step s more ≡ refused n p → Turn s more
+data Verdict (s : Step) {A : Type 0} (more : Outcome A) : Type 0 where
+  lets : Passes s → step s more ≡ more → Verdict s more
+  stops : (n p : ℕ) → given (bareOf s) (placedOf s) n p ≡ true → step s more ≡ refused n p → Verdict s more
 
-turn : {A : Type 0} (s : Step) (more : Outcome A) → Turn s more
+turn : {A : Type 0} (s : Step) (more : Outcome A) → Verdict s more
 turn (test n b) more = go b
   where
-    go : (b : Bool) → Turn (test n b) more
+    go : (b : Bool) → Verdict (test n b) more
     go true = stops n 0 (rw (eq-eqb n n refl)) refl
     go false = lets refl refl
 turn (most n limit size) more = go (ltb limit size) refl
   where
-    go : (b : Bool) → ltb limit size ≡ b → Turn (most n limit size) more
+    go : (b : Bool) → ltb limit size ≡ b → Verdict (most n limit size) more
     go true e = stops n 0 (rw (eq-eqb n n refl)) (rw e)
     go false e = lets (ltb-false limit size e) (rw e)
 turn (search-all numbers find f records) more = go (firstFault find records) refl
   where
-    go : (r : Fault) → firstFault find records ≡ r → Turn (search-all numbers find f records) more
+    go : (r : Fault) → firstFault find records ≡ r → Verdict (search-all numbers find f records) more
     go faultless e = lets (all-sound find records .0 e) (rw e)
     go (fault n p) e =
         let (i, place, w) = whose find n p records e in
@@ -136,8 +136,8 @@ passing (search-all numbers find f records) more h = rw (all-sound find records 
 
 -- a refusal comes from what follows the steps, or it is one that they can give
 data Whence (n p : ℕ) (steps : List Step) {A : Type 0} (more : Outcome A) : Type 0 where
-  beyond : Passed steps (more ≡ refused n p) → Whence n p steps more
-  within : given (bare steps) (placed steps) n p ≡ true → Whence n p steps more
+  beyond : PassedAll steps (more ≡ refused n p) → Whence n p steps more
+  within : given (bareOfAll steps) (placedOfAll steps) n p ≡ true → Whence n p steps more
 
 module _ {A : Type 0} (more : Outcome A) where
   whence : (n p : ℕ) (steps : List Step) → onto steps more ≡ refused n p → Whence n p steps more
@@ -148,44 +148,44 @@ module _ {A : Type 0} (more : Outcome A) where
       on h (beyond q) = beyond (h, q)
       on h (within g) =
           within
-          (wider n p (bare steps) (placed steps) (bare (s ∷ steps)) (placed (s ∷ steps))
-          (any-behind (eqb n) (bareOf s) (bare steps))
-          (any-behind (eqb n) (placedOf s) (placed steps))
+          (wider n p (bareOfAll steps) (placedOfAll steps) (bareOfAll (s ∷ steps)) (placedOfAll (s ∷ steps))
+          (any-behind (eqb n) (bareOf s) (bareOfAll steps))
+          (any-behind (eqb n) (placedOf s) (placedOfAll steps))
           g)
 
-      go : Turn s (onto steps more) → (onto steps more ≡ refused n p → Whence n p steps more) → Whence n p (s ∷ steps) more
+      go : Verdict s (onto steps more) → (onto steps more ≡ refused n p → Whence n p steps more) → Whence n p (s ∷ steps) more
       go (lets h same) ih = on h (ih (cc))
       go (stops m q g same) ih =
           let number : m ≡ n = cc in
           let place : q ≡ p = cc in
           let g′ = rw (number, place) at g in
           within
-          (wider n p (bareOf s) (placedOf s) (bare (s ∷ steps)) (placed (s ∷ steps))
-          (any-front (eqb n) (bareOf s) (bare steps))
-          (any-front (eqb n) (placedOf s) (placed steps))
+          (wider n p (bareOf s) (placedOf s) (bareOfAll (s ∷ steps)) (placedOfAll (s ∷ steps))
+          (any-front (eqb n) (bareOf s) (bareOfAll steps))
+          (any-front (eqb n) (placedOf s) (placedOfAll steps))
           g′)
 
   -- a result comes from what follows the steps
-  result : (a : A) (steps : List Step) → onto steps more ≡ done a → Passed steps (more ≡ done a)
+  result : (a : A) (steps : List Step) → onto steps more ≡ done a → PassedAll steps (more ≡ done a)
   result a [] e = e
   result a (s ∷ steps) e = go (turn s (onto steps more)) (result a steps)
     where
-      go : Turn s (onto steps more) → (onto steps more ≡ done a → Passed steps (more ≡ done a)) → Passed (s ∷ steps) (more ≡ done a)
+      go : Verdict s (onto steps more) → (onto steps more ≡ done a → PassedAll steps (more ≡ done a)) → PassedAll (s ∷ steps) (more ≡ done a)
       go (lets h same) ih = (h, ih (cc))
       go (stops m q g same) ih = let z : _≡_ {A = ℕ} 0 1 = cc in absurd (omega arith)
 
   -- where all steps let pass, what follows decides
-  arrived : {o : Outcome A} (steps : List Step) → Passed steps (more ≡ o) → onto steps more ≡ o
+  arrived : {o : Outcome A} (steps : List Step) → PassedAll steps (more ≡ o) → onto steps more ≡ o
   arrived [] e = e
   arrived (s ∷ steps) h = passing s (onto steps more) (h .0) ∙ arrived steps (h .1)
 
 -- what follows the steps
-follows : {X : Type 0} (steps : List Step) → Passed steps X → X
+follows : {X : Type 0} (steps : List Step) → PassedAll steps X → X
 follows [] h = h
 follows (s ∷ steps) h = follows steps (h .1)
 
 -- what follows from it, follows
-turned : {X Y : Type 0} (steps : List Step) → (X → Y) → Passed steps X → Passed steps Y
+turned : {X Y : Type 0} (steps : List Step) → (X → Y) → PassedAll steps X → PassedAll steps Y
 turned [] f h = f h
 turned (s ∷ steps) f h = (h .0, turned steps f (h .1))
 
@@ -193,38 +193,38 @@ turned (s ∷ steps) f h = (h .0, turned steps f (h .1))
 
 module _ {A : Type 0} (a : A) where
   -- only the numbers of its steps are given, each with a place of its kind
-  pub only : (steps : List Step) (n p : ℕ) → onto steps (done a) ≡ refused n p → given (bare steps) (placed steps) n p ≡ true
+  pub only : (steps : List Step) (n p : ℕ) → onto steps (done a) ≡ refused n p → given (bareOfAll steps) (placedOfAll steps) n p ≡ true
   only steps n p e = go (whence (done a) n p steps e)
     where
-      go : Whence n p steps (done a) → given (bare steps) (placed steps) n p ≡ true
+      go : Whence n p steps (done a) → given (bareOfAll steps) (placedOfAll steps) n p ≡ true
       go (beyond q) = let f = follows steps q in cc
       go (within g) = g
 
   -- a result is given exactly where every step lets pass
-  pub accepted : (steps : List Step) (r : A) → (onto steps (done a) ≡ done r) ↔ Passed steps (a ≡ r)
+  pub accepted : (steps : List Step) (r : A) → (onto steps (done a) ≡ done r) ↔ PassedAll steps (a ≡ r)
   accepted steps r = (
     λ e. turned steps (λ (f : done a ≡ done r). cc) (result (done a) r steps e),
     λ h. arrived (done a) steps (turned steps (λ (f : a ≡ r). rw f) h),
   )
 
   reached : {X : Type 0} (n p : ℕ) (before after : List Step) (here : Outcome A → Outcome A)
-      → given (bare before) (placed before) n p ≡ false → given (bare after) (placed after) n p ≡ false
+      → given (bareOfAll before) (placedOfAll before) n p ≡ false → given (bareOfAll after) (placedOfAll after) n p ≡ false
       → ((more : Outcome A) → ¬ (more ≡ refused n p) → (here more ≡ refused n p) ↔ X)
-      → (onto before (here (onto after (done a))) ≡ refused n p) ↔ Passed before X
+      → (onto before (here (onto after (done a))) ≡ refused n p) ↔ PassedAll before X
   reached {X} n p before after here quiet still exact =
       (λ e. go (whence (here (onto after (done a))) n p before e), λ h. arrived (here (onto after (done a))) before (turned before (hits .1) h))
     where
       hits : (here (onto after (done a)) ≡ refused n p) ↔ X
       hits = exact (onto after (done a)) λ e. clash _ (only after n p e) still
 
-      go : Whence n p before (here (onto after (done a))) → Passed before X
+      go : Whence n p before (here (onto after (done a))) → PassedAll before X
       go (beyond q) = turned before (hits .0) q
       go (within g) = clash _ g quiet
 
   -- a test refuses exactly where no step before it does and it holds
   pub refused-test : (n : ℕ) (before : List Step) (b : Bool) (after : List Step)
-      → any (eqb n) (bare before) ≡ false → any (eqb n) (bare after) ≡ false
-      → (onto before (refuse n b (onto after (done a))) ≡ refused n 0) ↔ Passed before (b ≡ true)
+      → any (eqb n) (bareOfAll before) ≡ false → any (eqb n) (bareOfAll after) ≡ false
+      → (onto before (refuse n b (onto after (done a))) ≡ refused n 0) ↔ PassedAll before (b ≡ true)
   refused-test n before b after quiet still = reached n 0 before after (refuse n b) quiet still (λ more else. (go more else b, λ e. rw e))
     where
       go : (more : Outcome A) → ¬ (more ≡ refused n 0) → (b : Bool) → refuse n b more ≡ refused n 0 → b ≡ true
@@ -233,20 +233,20 @@ module _ {A : Type 0} (a : A) where
 
   -- a limit refuses exactly where no step before it does and the size is more
   pub refused-most : (n : ℕ) (before : List Step) (limit size : ℕ) (after : List Step)
-      → any (eqb n) (bare before) ≡ false → any (eqb n) (bare after) ≡ false
-      → (onto before (refuse n (ltb limit size) (onto after (done a))) ≡ refused n 0) ↔ Passed before (limit < size)
+      → any (eqb n) (bareOfAll before) ≡ false → any (eqb n) (bareOfAll after) ≡ false
+      → (onto before (refuse n (ltb limit size) (onto after (done a))) ≡ refused n 0) ↔ PassedAll before (limit < size)
   refused-most n before limit size after quiet still =
       let r = refused-test n before (ltb limit size) after quiet still in
       (λ e. turned before (ltb-true limit size) (r .0 e), λ h. r .1 (turned before (lt-ltb limit size) h))
 
   -- a search refuses at a record's place exactly where no step before it does and that record is the first at fault
   pub refused-search : {R : Type 0} (n i : ℕ) (before : List Step) (find : R → Finding) (records : List R) (after : List Step)
-      → any (eqb n) (placed before) ≡ false → any (eqb n) (placed after) ≡ false
-      → (onto before (unless (firstFault find records) (onto after (done a))) ≡ refused n (i + 1)) ↔ Passed before (FirstWrong find n i records)
+      → any (eqb n) (placedOfAll before) ≡ false → any (eqb n) (placedOfAll after) ≡ false
+      → (onto before (unless (firstFault find records) (onto after (done a))) ≡ refused n (i + 1)) ↔ PassedAll before (FirstWrong find n i records)
   refused-search n i before find records after quiet still =
       reached n (i + 1) before after (unless (firstFault find records))
-      (rw (placed-given n i (bare before) (placed before)) quiet)
-      (rw (placed-given n i (bare after) (placed after)) still)
+      (rw (placed-given n i (bareOfAll before) (placedOfAll before)) quiet)
+      (rw (placed-given n i (bareOfAll after) (placedOfAll after)) still)
       (λ more else. (λ e. first-wrong find n i records .0 (go more else (firstFault find records) e), λ w. rw (first-wrong find n i records .1 w)))
     where
       go : (more : Outcome A) → ¬ (more ≡ refused n (i + 1)) → (f : Fault) → unless f more ≡ refused n (i + 1) → f ≡ fault n (i + 1)

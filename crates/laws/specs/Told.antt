@@ -47,13 +47,13 @@ told-unread (refused number place) a = (record { number = number; place = place;
 -- ---- a result
 
 -- the outcome is a result of n units, which are the front of the output
-pub record Wrote (o : Outcome (List ℕ)) (n : ℕ) (before after : List ℕ) : Type 0 where
+pub record Writing (o : Outcome (List ℕ)) (n : ℕ) (before after : List ℕ) : Type 0 where
   pub result : List ℕ
   pub made : o ≡ done result
   pub lies : Front n result before after
 
 -- the outcome is a list of arguments; their texts are the front of the output, their spans the front of the table
-pub record Gave (o : Outcome (List (List ℕ))) (count units : ℕ) (text text′ spans spans′ : List ℕ) : Type 0 where
+pub record Giving (o : Outcome (List (List ℕ))) (count units : ℕ) (text text′ spans spans′ : List ℕ) : Type 0 where
   pub args : List (List ℕ)
   pub made : o ≡ done args
   pub counted : length args ≡ count
@@ -62,7 +62,7 @@ pub record Gave (o : Outcome (List (List ℕ))) (count units : ℕ) (text text�
 
 -- a writer that answers with a count wrote so many units, where no refusal has the number 0 and a result has room
 pub told-written : (o : Outcome (List ℕ)) {n : ℕ} {before after : List ℕ} → ((place : ℕ) → ¬ (o ≡ refused 0 place))
-    → ((result : List ℕ) → o ≡ done result → length result ≤ length before) → Answered o (wrote n) before after → Wrote o n before after
+    → ((result : List ℕ) → o ≡ done result → length result ≤ length before) → Answered o (wrote n) before after → Writing o n before after
 told-written (done result) {n} {before} never fits a =
     let e : n ≡ length result = ap (λ (s : Said). s .units) (a .says) in
     record { result = result; made = refl; lies = rw (e, a .leaves) (over-front before result (fits result refl)) }
@@ -73,7 +73,7 @@ told-written (refused number place) never fits a =
 -- and the reader likewise
 pub told-given : (o : Outcome (List (List ℕ))) {count units : ℕ} {text text′ spans spans′ : List ℕ} → ((place : ℕ) → ¬ (o ≡ refused 0 place))
     → ((args : List (List ℕ)) → o ≡ done args → (length (joined args) ≤ length text) × (length args ≤ placesOf (length spans)))
-    → Read o (Parsed.Arguments count units) text text′ spans spans′ → Gave o count units text text′ spans spans′
+    → Read o (Parsed.Arguments count units) text text′ spans spans′ → Giving o count units text text′ spans spans′
 told-given (done args) {count} {units} {text} {spans = spans} never fits a =
     let e : count ≡ length args = ap (λ (s : Said). s .arguments) (a .says) in
     let f : units ≡ length (joined args) = ap (λ (s : Said). s .units) (a .says) in

@@ -13,7 +13,7 @@ use Rattle.rules.specs.Building.{commandLine, batchCommandLine}
 use Rattle.rules.specs.Block.{environmentBlock}
 use Rattle.rules.specs.Status.{statusOutcome}
 use Rattle.rules.specs.Reading.{reading}
-use Rattle.laws.specs.Told.{Refusing, told-refused, told-unread, Wrote, Gave, told-written, told-given}
+use Rattle.laws.specs.Told.{Refusing, told-refused, told-unread, Writing, Giving, told-written, told-given}
 use Rattle.promises.specs.Line.{line-numbered, line-whole}
 use Rattle.promises.specs.BatchLine.{batch-numbered, batch-whole}
 use Rattle.promises.specs.Block.{block-numbered, block-whole}
@@ -47,31 +47,31 @@ read-refused-answer {o} a = told-unread o a
 module _ {n : ℕ} {before after : List ℕ} where
   -- make_command_line: the answer counts the units of the line, which is the front of the output; the rest is kept
   pub line-answer : (force : Bool) (program records text : List ℕ) → let o = commandLine force program records text (length before) in
-      Answered o (wrote n) before after → Wrote o n before after
+      Answered o (wrote n) before after → Writing o n before after
   line-answer force program records text a =
       told-written _ (line-numbered force program records text (length before)) (λ result e. line-whole force program records text (length before) result e .0) a
 
   -- make_bat_command_line: the answer counts the units of the batch line, which is the front of the output; the rest is kept
   pub batch-answer : (force : Bool) (script records text : List ℕ) → let o = batchCommandLine force script records text (length before) in
-      Answered o (wrote n) before after → Wrote o n before after
+      Answered o (wrote n) before after → Writing o n before after
   batch-answer force script records text a =
       told-written _ (batch-numbered force script records text (length before)) (λ result e. batch-whole force script records text (length before) result e .0) a
 
   -- make_envp: the answer counts the units of the block, which is the front of the output; the rest is kept
   pub block-answer : (records text : List ℕ) → let o = environmentBlock records text (length before) in
-      Answered o (wrote n) before after → Wrote o n before after
+      Answered o (wrote n) before after → Writing o n before after
   block-answer records text a =
       told-written _ (block-numbered records text (length before)) (λ result e. block-whole records text (length before) result e .0) a
 
   -- status_text: the answer counts the units of the text, which is the front of the output; the rest is kept
-  pub status-answer : (status : ℕ) → let o = statusOutcome status (length before) in Answered o (wrote n) before after → Wrote o n before after
+  pub status-answer : (status : ℕ) → let o = statusOutcome status (length before) in Answered o (wrote n) before after → Writing o n before after
   status-answer status a =
       told-written _ (status-numbered status (length before)) (λ result e. status-whole status (length before) result e .0) a
 
 -- parse_lp_cmd_line: the answer counts arguments and units; texts and spans are the fronts of output and table, and the rests are kept
 pub parse-answer : (executable lent : List ℕ) {count units : ℕ} {text text′ spans spans′ : List ℕ} →
     let o = reading executable lent (length text) (length spans) in
-    Read o (Parsed.Arguments count units) text text′ spans spans′ → Gave o count units text text′ spans spans′
+    Read o (Parsed.Arguments count units) text text′ spans spans′ → Giving o count units text text′ spans spans′
 parse-answer executable lent {text = text} {spans = spans} a =
     told-given _
     (read-numbered executable lent (length text) (length spans))

@@ -18,7 +18,7 @@ use Rattle.laws.specs.LineRead.{isRaw, contents}
 use Rattle.laws.specs.Answer.{parsed-one}
 use Rattle.laws.specs.Span.{part-given, part-stale, part-missing}
 use Rattle.promises.specs.Reading.{read-given}
-use Rattle.promises.specs.RoundTrip.{Written, round-trip, round-trip-always}
+use Rattle.promises.specs.RoundTrip.{BuiltOf, round-trip, round-trip-always}
 use Rattle.promises.specs.Answers.{line-answer}
 
 -- ---- after a reading that gave these arguments
@@ -48,7 +48,7 @@ module _ (executable lent text spans : List ℕ) {r : Parsed} {text′ spans′ 
 -- ---- build, read, and take each argument
 
 -- the reader's answer, and the part of each index, are those of the list
-pub record Taken (r : Parsed) (text spans : List ℕ) (list : List (List ℕ)) : Type 0 where
+pub record ReadAs (r : Parsed) (text spans : List ℕ) (list : List (List ℕ)) : Type 0 where
   pub answer : r ≡ Parsed.Arguments (length list) (length (joined list))
   pub each : (i : ℕ) → i < length list → argumentPart text spans i ≡ getD list i []
 
@@ -61,12 +61,12 @@ module _ (force : Bool) (program records text : List ℕ) {n : ℕ} {out out′ 
   abbrev list : List (List ℕ)
   list = program ∷ contents (argumentsOf text records)
 
-  line-written : Written force program records text (length out) (take n out′)
+  line-written : BuiltOf force program records text (length out) (take n out′)
   line-written =
       let w = line-answer force program records text b in
       record { built = w .made ∙ rw (w .lies .front); unquoted = unquoted; regulars = regular }
 
-  taken : reading executable (take n out′) (length texts) (length spans) ≡ done list → Taken r texts′ spans′ list
+  taken : reading executable (take n out′) (length texts) (length spans) ≡ done list → ReadAs r texts′ spans′ list
   taken e =
       record {
         answer = answer-counts executable (take n out′) texts spans e c;
@@ -74,9 +74,9 @@ module _ (force : Bool) (program records text : List ℕ) {n : ℕ} {out out′ 
       }
 
   -- demand 3 over the contracts: what the builder wrote is read, with room for it, and each argument taken is that of the list
-  pub full-trip : length (joined list) ≤ length texts → length list ≤ placesOf (length spans) → Taken r texts′ spans′ list
+  pub full-trip : length (joined list) ≤ length texts → length list ≤ placesOf (length spans) → ReadAs r texts′ spans′ list
   full-trip h g = taken (round-trip line-written executable (length texts) (length spans) h g)
 
   -- demand 3 over the contracts, with room that is always enough
-  pub full-trip-always : 32767 ≤ length texts → 32768 ≤ length spans → Taken r texts′ spans′ list
+  pub full-trip-always : 32767 ≤ length texts → 32768 ≤ length spans → ReadAs r texts′ spans′ list
   full-trip-always h g = taken (round-trip-always line-written executable (length texts) (length spans) h g)

@@ -48,8 +48,8 @@ module _ (force : Bool) (script records text : List ℕ) (room : ℕ) where
   five = test 5 (any isNul (scriptOf script))
 
   -- 6 and 5 argument by argument
-  abbrev units : Step
-  units = search-all (6 ∷ 5 ∷ []) batchFinding batch-finds args
+  abbrev six : Step
+  six = search-all (6 ∷ 5 ∷ []) batchFinding batch-finds args
 
   -- 2 for the whole line
   abbrev two : Step
@@ -64,23 +64,23 @@ module _ (force : Bool) (script records text : List ℕ) (room : ℕ) where
   -- only 7, 5, 2 and 4 are given at place 0, only 1, 6 and 5 at a record's place
   pub batch-only : (number place : ℕ) → built ≡ refused number place → given (7 ∷ 5 ∷ 2 ∷ 4 ∷ []) (1 ∷ 6 ∷ 5 ∷ []) number place ≡ true
   unfolding batchCommandLine argumentFault
-  batch-only number place e = only whole (one ∷ seven ∷ five ∷ units ∷ two ∷ four ∷ []) number place e
+  batch-only number place e = only whole (one ∷ seven ∷ five ∷ six ∷ two ∷ four ∷ []) number place e
 
   -- 1 at place i + 1: record i is the first at fault
   pub batch-record : (i : ℕ) → (built ≡ refused 1 (i + 1)) ↔ FirstWrongRecord text records i
   unfolding batchCommandLine argumentFault
-  batch-record i = refused-search whole 1 i [] _ _ (seven ∷ five ∷ units ∷ two ∷ four ∷ []) refl refl
+  batch-record i = refused-search whole 1 i [] _ _ (seven ∷ five ∷ six ∷ two ∷ four ∷ []) refl refl
 
   -- 7: the script contains a quote, or its last unit as lent is a backslash
   pub batch-script : (built ≡ refused 7 0) ↔ (SoundRecords text records and (isNoScript script ≡ true))
   unfolding batchCommandLine argumentFault
-  batch-script = refused-test whole 7 (one ∷ []) _ (five ∷ units ∷ two ∷ four ∷ []) refl refl
+  batch-script = refused-test whole 7 (one ∷ []) _ (five ∷ six ∷ two ∷ four ∷ []) refl refl
 
   -- 5 at place 0: a NUL in the script after one final NUL is dropped
   pub batch-script-nul : (built ≡ refused 5 0)
       ↔ (SoundRecords text records and (isNoScript script ≡ false) and (any isNul (scriptOf script) ≡ true))
   unfolding batchCommandLine argumentFault
-  batch-script-nul = refused-test whole 5 (one ∷ seven ∷ []) _ (units ∷ two ∷ four ∷ []) refl refl
+  batch-script-nul = refused-test whole 5 (one ∷ seven ∷ []) _ (six ∷ two ∷ four ∷ []) refl refl
 
   -- 6 at place i + 1: argument i is the first at fault, and it is a regular one with CR or LF
   pub batch-argument-break : (i : ℕ) → (built ≡ refused 6 (i + 1)) ↔ SoundScript (FirstWrong batchFinding 6 i args)
@@ -95,18 +95,18 @@ module _ (force : Bool) (script records text : List ℕ) (room : ℕ) where
   -- 2: the line has more units than the limit
   pub batch-length : (built ≡ refused 2 0) ↔ SoundScript (Sound batchFinding args and (batchLimit < length whole))
   unfolding batchCommandLine argumentFault
-  batch-length = refused-most whole 2 (one ∷ seven ∷ five ∷ units ∷ []) _ _ (four ∷ []) refl refl
+  batch-length = refused-most whole 2 (one ∷ seven ∷ five ∷ six ∷ []) _ _ (four ∷ []) refl refl
 
   -- 4: the output has fewer units than the line
   pub batch-room : (built ≡ refused 4 0) ↔ SoundScript (Sound batchFinding args and (length whole ≤ batchLimit) and (room < length whole))
   unfolding batchCommandLine argumentFault
-  batch-room = refused-most whole 4 (one ∷ seven ∷ five ∷ units ∷ two ∷ []) _ _ [] refl refl
+  batch-room = refused-most whole 4 (one ∷ seven ∷ five ∷ six ∷ two ∷ []) _ _ [] refl refl
 
   -- the line is built where nothing of this applies
   pub batch-built : (result : List ℕ) → (built ≡ done result)
       ↔ SoundScript (Sound batchFinding args and (length whole ≤ batchLimit) and (length whole ≤ room) and (whole ≡ result))
   unfolding batchCommandLine argumentFault
-  batch-built result = accepted whole (one ∷ seven ∷ five ∷ units ∷ two ∷ four ∷ []) result
+  batch-built result = accepted whole (one ∷ seven ∷ five ∷ six ∷ two ∷ four ∷ []) result
 
   -- no refusal has the number 0
   pub batch-numbered : (place : ℕ) → ¬ (built ≡ refused 0 place)

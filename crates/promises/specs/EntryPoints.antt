@@ -65,7 +65,7 @@ IsPart lent xs = (start size : ℕ) × (xs ≡ part lent start size)
 abbrev pub reader : EntryPoint
 reader =
     record {
-      Lent = ToRead;
+      Input = ToRead;
       Answer = Parsed;
       Memory = List ℕ × List ℕ;
       held = λ x. (x .text, x .spans);
@@ -79,19 +79,19 @@ reader =
 
 -- an entry point that writes units over one output: what it comes to, and its whole result, also where all behind the first argument is merely copied
 pub record Writer : Type 1 where
-  pub Lent : Type 0
+  pub Input : Type 0
   pub Answer : Type 0
   pub said : Answer → Said
-  pub out : Lent → List ℕ
-  pub outcome : Lent → Outcome (List ℕ)
-  pub whole : Lent → List ℕ
-  pub copied : Lent → List ℕ
+  pub out : Input → List ℕ
+  pub outcome : Input → Outcome (List ℕ)
+  pub whole : Input → List ℕ
+  pub copied : Input → List ℕ
 
 -- its contract, and what its programs are judged by
 abbrev pub writing : Writer → EntryPoint
 writing w =
     record {
-      Lent = w .Lent;
+      Input = w .Input;
       Answer = w .Answer;
       Memory = List ℕ;
       held = w .out;
@@ -110,7 +110,7 @@ rest-raw (a ∷ more) = a ∷ map (λ b. record { kind = raw; content = b .conte
 abbrev pub line-builder : Writer
 line-builder =
     record {
-      Lent = ToBuild;
+      Input = ToBuild;
       Answer = Built;
       said = builtSaid;
       out = λ x. x .out;
@@ -123,7 +123,7 @@ line-builder =
 abbrev pub batch-builder : Writer
 batch-builder =
     record {
-      Lent = ToBuild;
+      Input = ToBuild;
       Answer = Built;
       said = builtSaid;
       out = λ x. x .out;
@@ -146,7 +146,7 @@ rest-copied (e ∷ more) = entryUnits (e ∷ []) ++ copied-entries more ++ nul �
 abbrev pub block-builder : Writer
 block-builder =
     record {
-      Lent = ToFill;
+      Input = ToFill;
       Answer = Filled;
       said = filledSaid;
       out = λ x. x .out;

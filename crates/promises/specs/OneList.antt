@@ -8,11 +8,11 @@ use lib.ListN.{length}
 use Rattle.rules.specs.Record.{argumentsOf}
 use Rattle.rules.specs.Reading.{joined}
 use Rattle.laws.specs.LineRead.{contents}
-use Rattle.promises.specs.RoundTrip.{Written, listed, round-trip}
+use Rattle.promises.specs.RoundTrip.{BuiltOf, listed, round-trip}
 
 -- a line that was built twice was built of one program and of one list of arguments, whether quotes were forced or not and wherever the texts stood
 pub one-list : {f f′ : Bool} {program program′ records records′ text text′ : List ℕ} {room room′ : ℕ} {whole : List ℕ}
-    → Written f program records text room whole → Written f′ program′ records′ text′ room′ whole
+    → BuiltOf f program records text room whole → BuiltOf f′ program′ records′ text′ room′ whole
     → (program ≡ program′) × (contents (argumentsOf text records) ≡ contents (argumentsOf text′ records′))
 one-list w w′ =
     let room = length (joined (listed w)) + length (joined (listed w′)) in

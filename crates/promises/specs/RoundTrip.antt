@@ -18,8 +18,8 @@ use Rattle.laws.specs.Extent.{read-extent}
 use Rattle.promises.specs.Line.{line-built}
 use Rattle.promises.specs.Reading.{read-given}
 
--- a line that was built of a program without quote marks and of regular arguments
-pub record Written (force : Bool) (program records text : List ℕ) (room : ℕ) (whole : List ℕ) : Type 0 where
+-- a line that was built, of a program without quote marks and of regular arguments
+pub record BuiltOf (force : Bool) (program records text : List ℕ) (room : ℕ) (whole : List ℕ) : Type 0 where
   pub built : commandLine force program records text room ≡ done whole
   pub unquoted : any isQuote program ≡ false
   pub regulars : any isRaw (argumentsOf text records) ≡ false
@@ -32,7 +32,7 @@ always-enough executable lent room numbers h g s =
     let e = read-extent executable lent in
     read-given executable lent room numbers _ .1 (s, (omega arith, (omega arith, refl)))
 
-module _ {force : Bool} {program records text : List ℕ} {room : ℕ} {whole : List ℕ} (w : Written force program records text room whole) where
+module _ {force : Bool} {program records text : List ℕ} {room : ℕ} {whole : List ℕ} (w : BuiltOf force program records text room whole) where
   -- the program and the units of each argument, in order
   abbrev pub listed : List (List ℕ)
   listed = program ∷ contents (argumentsOf text records)

@@ -94,14 +94,14 @@ reader-tried =
 
 module _ (w : Writer) where
   -- an input, the answer, and what the output holds then
-  abbrev trial : (x : w .Lent) (r : w .Answer) (after : List ℕ) → w .said r ≡ unitsSaid (w .outcome x) → after ≡ filled (w .out x) (w .outcome x)
+  abbrev trial : (x : w .Input) (r : w .Answer) (after : List ℕ) → w .said r ≡ unitsSaid (w .outcome x) → after ≡ filled (w .out x) (w .outcome x)
       → w .said r .number ≡ 0 → Trial (writing w)
   trial x r after says leaves accepted =
       record { lent = x; answer = r; after = after; right = record { says = says; leaves = leaves }; accepted = accepted }
 
   -- two inputs over one output, where the first result leaves neither what was there, nor a copy, nor what the second leaves
-  tried : Telling (w .said) → ((x : w .Lent) (place : ℕ) → ¬ (w .outcome x ≡ refused 0 place))
-      → ((x : w .Lent) (result : List ℕ) → w .outcome x ≡ done result → w .whole x ≡ result) → (first second : Trial (writing w))
+  tried : Telling (w .said) → ((x : w .Input) (place : ℕ) → ¬ (w .outcome x ≡ refused 0 place))
+      → ((x : w .Input) (result : List ℕ) → w .outcome x ≡ done result → w .whole x ≡ result) → (first second : Trial (writing w))
       → let x = first .lent in w .out x ≡ w .out (second .lent) → equal (first .after) (second .after) ≡ false
       → equal (first .after) (w .out x) ≡ false → equal (first .after) (over (w .out x) (w .copied x)) ≡ false → Tried (writing w)
   tried tells numbered made first second together unlike changed uncopied =
