@@ -50,9 +50,9 @@ module _ (executable lent : List ℕ) (room numbers : ℕ) where
   read-length = refused-most args 2 [] _ _ (three ∷ four ∷ []) refl refl
 
   -- 3: the span table has fewer places than there are arguments
-  pub read-spans : (read ≡ refused 3 0) ↔ ((size ≤ readLimit) and (placesOf numbers < length args))
+  pub read-places : (read ≡ refused 3 0) ↔ ((size ≤ readLimit) and (placesOf numbers < length args))
   unfolding reading
-  read-spans = refused-most args 3 (two ∷ []) _ _ (four ∷ []) refl refl
+  read-places = refused-most args 3 (two ∷ []) _ _ (four ∷ []) refl refl
 
   -- 4: the output has fewer units than the texts
   pub read-room : (read ≡ refused 4 0) ↔ ((size ≤ readLimit) and (length args ≤ placesOf numbers) and (room < length (joined args)))

@@ -1,7 +1,6 @@
 -- Worthless programs, and that no contract of an entry point admits one. Assumes nothing.
 -- "a reader or writer that refuses everything .., one that answers with one fixed line or list, one that changes no output, one that treats the
 -- first argument rightly and copies the rest, one that reports invented argument or unit counts"
-use Prim.Native.Nat.{ℕ}
 use mathlib.Core.Path.{_≡_, sym, ap, _∙_}
 use Rattle.rules.specs.Answer.{Said}
 
