@@ -12,7 +12,7 @@ use Rattle.rules.specs.Record.{Argument, isRegular}
 use Rattle.rules.specs.Quoting.{slashes, escaped, needsQuotes, form}
 use Rattle.rules.specs.Building.{written, nulFinding}
 use Rattle.laws.specs.Kind.{Kind, slash, marked, other, kind}
-use Rattle.original.specs.Wtf8.{as-encoded-bytes}
+use Rattle.original.specs.Shims.{as-encoded-bytes}
 use Rattle.original.specs.AppendArg.{Regular, Raw, Always, Auto, quote-and-escape, for-units, append-arg}
 use Rattle.original.specs.Domain.{rust-says, finding-says, arg-of}
 use Rattle.original.specs.Loops.{ensured-says}

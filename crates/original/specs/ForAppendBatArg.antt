@@ -14,9 +14,9 @@ use Rattle.rules.specs.Building.{nulFinding}
 use Rattle.rules.specs.Batch.{batchEscaped, endsInBackslash, needsBatchQuotes, batchForm}
 use Rattle.laws.specs.Kind.{Kind, slash, marked, other, kind}
 use Rattle.laws.specs.Choice.{apart}
-use Rattle.original.specs.Shims.{_==Some_, contains, last}
-use Rattle.original.specs.Wtf8.{is-high, is-low, pair, code-points, as-encoded-bytes}
-use Rattle.original.specs.AppendBatArg.{is-ascii, is-ascii-alphanumeric, is-control, UNQUOTED, for-code-points, for-bat-units, append-bat-arg}
+use Rattle.original.specs.Language.{_==Some_}
+use Rattle.original.specs.Shims.{contains, last, is-high, is-low, pair, code-points, as-encoded-bytes, is-ascii, is-ascii-alphanumeric, is-control}
+use Rattle.original.specs.AppendBatArg.{UNQUOTED, for-code-points, for-bat-units, append-bat-arg}
 use Rattle.original.specs.Domain.{rust-says, finding-says}
 use Rattle.original.specs.Loops.{ensured-says}
 use Rattle.laws.specs.Choice.{both-true}

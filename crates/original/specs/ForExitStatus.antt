@@ -12,7 +12,9 @@ use lib.IntN.{pos, _-ℤ_, +ℤ-idr}
 use Rattle.rules.specs.Choice.{pick}
 use Rattle.rules.specs.Unit.{units}
 use Rattle.rules.specs.Status.{glyph, digits, highBit, statusFront, statusText, signedCode}
-use Rattle.original.specs.ExitStatus.{as-i32, exit-code, and-high-bit, digit, formatted, exit-display}
+use Rattle.original.specs.Language.{as-i32, and-high-bit}
+use Rattle.original.specs.Shims.{digit, formatted}
+use Rattle.original.specs.ExitStatus.{exit-code, exit-display}
 
 -- ---- the signed code
 

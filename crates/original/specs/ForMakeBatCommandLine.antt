@@ -14,8 +14,8 @@ use Rattle.rules.specs.Record.{Argument, isRegular, raw, argumentsOf}
 use Rattle.rules.specs.Batch.{endsInBackslash, batchForm}
 use Rattle.rules.specs.Building.{written, tail, batchLimit, scriptOf, batchFront, batchLine, isNoScript, nulFinding, batchFinding, batchCommandLine}
 use Rattle.laws.specs.Choice.{apart}
-use Rattle.original.specs.Shims.{_==Some_, contains, last, before, strip-suffix, unwrap-or, Result, Ok, Err, _>>=_}
-use Rattle.original.specs.Wtf8.{as-encoded-bytes}
+use Rattle.original.specs.Language.{_==Some_}
+use Rattle.original.specs.Shims.{contains, last, before, strip-suffix, unwrap-or, Result, Ok, Err, _>>=_, as-encoded-bytes}
 use Rattle.original.specs.AppendArg.{Arg, Regular, Raw}
 use Rattle.original.specs.AppendBatArg.{append-bat-arg}
 use Rattle.original.specs.MakeBatCommandLine.{DISALLOWED, Append, match-arg, for-bat-args, make-bat-command-line-by, make-bat-command-line}

@@ -10,8 +10,8 @@ use Rattle.rules.specs.Unit.{isNul, nul, equals}
 use Rattle.rules.specs.Outcome.{sound, wrongIf, faultFrom, firstFault, unless, limited}
 use Rattle.rules.specs.Record.{Entry, entriesOf}
 use Rattle.rules.specs.Block.{blockLimit, entryUnits, block, entryNulFinding, environmentBlock}
-use Rattle.original.specs.Shims.{Result, Ok, Err, nul-found, ensure-no-nuls, _>>=_}
-use Rattle.original.specs.MakeEnvp.{Ordering, Less, Equal, Greater, Compare, at-first, insert, inserted, btree-map, for-env, make-envp}
+use Rattle.original.specs.Shims.{Result, Ok, Err, nul-found, ensure-no-nuls, _>>=_, Ordering, Less, Equal, Greater, Compare, at-first, insert, inserted, btree-map}
+use Rattle.original.specs.MakeEnvp.{for-env, make-envp}
 use Rattle.original.specs.Domain.{rust-says, port-says, in-domain, finding-says, fault-says}
 use Rattle.original.specs.DomainLaws.{unless-says, entries-sound}
 use Rattle.original.specs.Loops.{says-then, Loop, loop-says}

@@ -5,7 +5,7 @@ use native.Mathlib.Nat.{add-zero}
 use mathlib.Core.Path.{_≡_, refl, sym, ap, _∙_}
 use mathlib.Core.Bool.{Bool, true, false}
 use mathlib.Core.List.{List, [], _∷_, _++_, append-assoc, append-nil}
-use mathlib.Core.Option.{none, some}
+use mathlib.Core.Option.{Option, none, some}
 use lib.Dec.{ltb}
 use lib.ListN.{length}
 use Rattle.rules.specs.Choice.{pick, either, flip, isEmpty}
@@ -14,8 +14,9 @@ use Rattle.rules.specs.Outcome.{done, refuse}
 use Rattle.rules.specs.Quoting.{slashes}
 use Rattle.rules.specs.Reading.{lineOf, argument0, behind0, Mode, between, outside, inside, closing, taking, odd, later, arguments, argumentsRead, unitsRead, readLimit, placesOf, joined, reading}
 use Rattle.laws.specs.Kind.{Kind, slash, marked, other, kind}
-use Rattle.original.specs.Shims.{_==Some_, peek, next, w-str-units, advance-while}
-use Rattle.original.specs.ParseLpCmdLine.{Turn, go-on, for-w, Locals, match-w, while-w, parse-lp-cmd-line}
+use Rattle.original.specs.Language.{_==Some_, Turn, go-on}
+use Rattle.original.specs.Shims.{peek, next, w-str-units, advance-while}
+use Rattle.original.specs.ParseLpCmdLine.{for-w, Locals, match-w, while-w, parse-lp-cmd-line-by, parse-lp-cmd-line}
 use Rattle.original.specs.Domain.{gives, port-says, in-domain}
 use Rattle.original.specs.Laws.{both-false}
 
@@ -268,6 +269,13 @@ parse-lp-cmd-line-is (x ∷ xs) exe-name = listed x xs exe-name
 pub parse-empty : (exe-name : List ℕ) → parse-lp-cmd-line (some []) exe-name ≡ exe-name ∷ []
 unfolding parse-lp-cmd-line
 parse-empty exe-name = refl
+
+-- `unwrap` is never reached where there is none: whatever stood for a panic, no list of arguments would be another.
+pub unwrap-unreached : (panic : List ℕ) (lp-cmd-line : Option (List ℕ)) (exe-name : List ℕ)
+    → parse-lp-cmd-line-by panic lp-cmd-line exe-name ≡ parse-lp-cmd-line lp-cmd-line exe-name
+unfolding parse-lp-cmd-line
+unwrap-unreached panic none exe-name = refl
+unwrap-unreached panic (some line) exe-name = refl
 
 -- A null pointer is read as an empty line is.
 pub parse-null : (exe-name : List ℕ) → parse-lp-cmd-line none exe-name ≡ argumentsRead exe-name []

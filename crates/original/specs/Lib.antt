@@ -1,5 +1,5 @@
+pub mod Language
 pub mod Shims
-pub mod Wtf8
 pub mod AppendArg
 pub mod AppendBatArg
 pub mod MakeCommandLine

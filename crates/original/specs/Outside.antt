@@ -13,12 +13,12 @@ use Rattle.rules.specs.Building.{commandLine, batchCommandLine}
 use Rattle.rules.specs.Block.{environmentBlock}
 use Rattle.rules.specs.Reading.{reading}
 use Rattle.rules.specs.Status.{statusText}
-use Rattle.original.specs.Shims.{Ok, w-str-units}
+use Rattle.original.specs.Shims.{Ok, w-str-units, Less, Equal, Greater, Compare, btree-map}
 use Rattle.original.specs.AppendBatArg.{append-bat-arg}
 use Rattle.original.specs.MakeCommandLine.{make-command-line}
 use Rattle.original.specs.MakeBatCommandLine.{make-bat-command-line}
 use Rattle.original.specs.ParseLpCmdLine.{parse-lp-cmd-line}
-use Rattle.original.specs.MakeEnvp.{Less, Equal, Greater, Compare, btree-map, make-envp}
+use Rattle.original.specs.MakeEnvp.{make-envp}
 use Rattle.original.specs.ExitStatus.{exit-display}
 use Rattle.original.specs.Domain.{Told, gives, refuses, rust-says, port-says, in-domain}
 

@@ -1,55 +1,23 @@
--- What the transcriptions use of the Rust's language and library. Assumes nothing.
--- A Rust name is kept, with `-` for `_`, which no name may hold here. A vector is a list, and what is pushed comes to its end. Units are `u16`
--- in the Rust; no definition and no theorem here needs that they are below 65,536.
-use Prim.Native.Nat.{ℕ, _+_, _-_}
-use Prim.Native.Char.{Char, code}
+-- What stands for the Rust's library, under its names with `-` for `_`, which no name may hold here. Assumes nothing.
+-- A vector is a list, and what is pushed comes to its end. A text (`OsStr`, `OsString`) is its units.
+-- Units are `u16` in the Rust; no definition and no theorem here needs that they are below 65,536.
+-- Borrowed from `rules`: `any` and `isEmpty` (Choice), `units` and `within` (Unit), `Entry` (Record).
+-- Nothing stands for what changes no value: `as_ref`, `as_inner`, `iter`, `collect`, `map` to one value, `NonZero::get`.
+use Prim.Native.Nat.{ℕ, zero, suc, _+_, _-_, _*_, _/_, _%_}
+use Prim.Native.String.{String}
 use mathlib.Core.Bool.{Bool, true, false}
 use mathlib.Core.List.{List, [], _∷_, _++_}
 use mathlib.Core.Option.{Option, none, some}
-use lib.Dec.{eqb, leb}
+use lib.Dec.{leb, ltb}
 use lib.ListN.{length, drop, replicate}
-use Rattle.rules.specs.Choice.{pick, either, both, flip, any, isEmpty}
+use Rattle.rules.specs.Choice.{any, isEmpty}
+use Rattle.rules.specs.Unit.{units, within}
+use Rattle.rules.specs.Record.{Entry}
+use Rattle.original.specs.Language.{if_then_else_, _==_, _&&_, _||_, u16}
 
-infix 5 if_then_else_
-infix 5 if-let-Some_of_else_
-infix 60 _==_
-infix 60 _==Some_
-infixr 40 _&&_
-infixr 35 _||_
-infix 50 !_
 infixl 20 _>>=_
--- ---- the language
-
--- `if`
-abbrev pub if_then_else_ {ℓ} : {A : Type ℓ} → Bool → A → A → A
-if b then x else y = pick b x y
-
--- `==` on numbers
-abbrev pub _==_ : ℕ → ℕ → Bool
-m == n = eqb m n
-
--- `&&`
-abbrev pub _&&_ : Bool → Bool → Bool
-a && b = both a b
-
--- `||`
-abbrev pub _||_ : Bool → Bool → Bool
-a || b = either a b
-
--- `!`
-abbrev pub !_ : Bool → Bool
-! b = flip b
-
--- `'c' as u16`, `b'c' as u16`
-abbrev pub u16 : Char → ℕ
-u16 c = code c
-
+infix 5 when_return-Err_
 -- ---- options
-
--- `o == Some(n)`
-abbrev pub _==Some_ : Option ℕ → ℕ → Bool
-none ==Some n = false
-some m ==Some n = m == n
 
 -- `is_none`
 abbrev pub is-none {ℓ} : {A : Type ℓ} → Option A → Bool
@@ -66,19 +34,15 @@ abbrev pub unwrap-or {ℓ} : {A : Type ℓ} → Option A → A → A
 unwrap-or none other = other
 unwrap-or (some a) other = a
 
--- `if let Some(a) = o`, and what is so where it is none
-abbrev pub if-let-Some_of_else_ : {A B : Type 0} → Option A → (A → B) → B → B
-if-let-Some none of f else other = other
-if-let-Some (some a) of f else other = f a
-
--- `checked_sub`
-abbrev pub checked-sub : ℕ → ℕ → Option ℕ
-checked-sub m n = if leb n m then some (m - n) else none
+-- `unwrap`: where there is none the Rust panics. What stands for that is given first; `unwrap-unreached` (ForParseLpCmdLine) shows that it never counts.
+abbrev pub unwrap {ℓ} : {A : Type ℓ} → A → Option A → A
+unwrap panic none = panic
+unwrap panic (some a) = a
 
 -- ---- errors
 
--- the errors that the judged functions give: a NUL found by `ensure_no_nuls`; "batch file arguments are invalid"; a script that contains a
--- quote or ends with a backslash
+-- The errors that the judged functions give, without their kinds and texts.
+-- They are a NUL found by `ensure_no_nuls`; the constant of args 297 - 298, for an argument; and args 311 - 314, for a script.
 pub data Error : Type 0 where
   nul-found invalid-argument invalid-script : Error
 
@@ -87,10 +51,14 @@ pub data Result (A : Type 0) : Type 0 where
   Ok : A → Result A
   Err : Error → Result A
 
--- `?`: an error ends the function. `x ← e` is `let x = e?`
+-- `?`: an error ends the function. `x ← e` is `let x = e?`.
 abbrev pub _>>=_ : {A B : Type 0} → Result A → (A → Result B) → Result B
 Ok a >>= more = more a
 Err e >>= more = Err e
+
+-- an early return of an error: `_ ← when test return-Err e` is `if test { return Err(e) }`
+abbrev pub when_return-Err_ : Bool → Error → Result (Unit {0})
+when test return-Err e = if test then Err e else Ok tt
 
 -- ---- vectors and slices
 
@@ -109,6 +77,10 @@ times n x = replicate n x
 -- `is_empty`
 abbrev pub is-empty {ℓ} : {A : Type ℓ} → List A → Bool
 is-empty xs = isEmpty xs
+
+-- `iter().any`
+abbrev pub iter-any : (ℕ → Bool) → List ℕ → Bool
+iter-any test xs = any test xs
 
 -- `contains`
 abbrev pub contains : List ℕ → ℕ → Bool
@@ -134,6 +106,153 @@ abbrev pub strip-suffix : List ℕ → ℕ → Option (List ℕ)
 strip-suffix [] s = none
 strip-suffix (x ∷ []) s = if x == s then some [] else none
 strip-suffix (x ∷ y ∷ ys) s = before x (strip-suffix (y ∷ ys) s)
+
+-- ---- characters, and texts in quotes
+
+-- a text in quotes, whose characters are one unit each: as `&str` its characters, by `encode_utf16` its units
+unfoldable pub str : String → List ℕ
+unfolding units
+str text = units text
+
+-- `char::is_ascii`
+abbrev pub is-ascii : ℕ → Bool
+is-ascii cp = ltb cp 128
+
+-- `char::is_ascii_alphanumeric`
+abbrev pub is-ascii-alphanumeric : ℕ → Bool
+is-ascii-alphanumeric cp = within (u16 "A") (u16 "Z") cp || within (u16 "a") (u16 "z") cp || within (u16 "0") (u16 "9") cp
+
+-- `char::is_control`: the control blocks C0 with DEL, and C1
+abbrev pub is-control : ℕ → Bool
+is-control cp = within 0x00 0x1f cp || within 0x7f 0x9f cp
+
+-- ---- texts: the Rust keeps WTF-8 bytes that encode code points, here the units are the text
+
+-- `OsString::from_wide`
+abbrev pub from-wide : List ℕ → List ℕ
+from-wide wide = wide
+
+-- `encode_wide`
+abbrev pub encode-wide : List ℕ → List ℕ
+encode-wide arg = arg
+
+-- a high surrogate, which a low one makes a pair
+abbrev pub is-high : ℕ → Bool
+is-high x = within 0xd800 0xdbff x
+
+-- a low surrogate
+abbrev pub is-low : ℕ → Bool
+is-low x = within 0xdc00 0xdfff x
+
+-- the code point of a pair
+abbrev pub pair : ℕ → ℕ → ℕ
+pair high low = 0x10000 + ((high - 0xd800) * 0x400 + (low - 0xdc00))
+
+-- `code_points`: a pair of surrogates is one code point, every other unit is its own
+unfoldable pub code-points : List ℕ → List ℕ
+code-points [] = []
+code-points (x ∷ []) = x ∷ []
+code-points (x ∷ y ∷ ys) =
+    let joined = pair x y ∷ code-points ys in
+    let alone = x ∷ code-points (y ∷ ys) in
+    if is-high x && is-low y then joined else alone
+
+-- `to_char`: an unpaired surrogate is no character
+abbrev pub to-char : ℕ → Option ℕ
+to-char cp = if within 0xd800 0xdfff cp then none else some cp
+
+-- the bytes of a code point
+abbrev pub encoded : ℕ → List ℕ
+encoded cp =
+    if ltb cp 0x80 then cp ∷ []
+    else if ltb cp 0x800 then (0xc0 + cp / 64) ∷ (0x80 + cp % 64) ∷ []
+    else if ltb cp 0x10000 then (0xe0 + cp / 4096) ∷ (0x80 + cp / 64 % 64) ∷ (0x80 + cp % 64) ∷ []
+    else (0xf0 + cp / 262144) ∷ (0x80 + cp / 4096 % 64) ∷ (0x80 + cp / 64 % 64) ∷ (0x80 + cp % 64) ∷ []
+
+-- the bytes of code points
+unfoldable pub bytes : List ℕ → List ℕ
+bytes [] = []
+bytes (cp ∷ cps) = encoded cp ++ bytes cps
+
+-- `as_encoded_bytes`
+unfoldable pub as-encoded-bytes : List ℕ → List ℕ
+unfolding code-points bytes
+as-encoded-bytes arg = bytes (code-points arg)
+
+-- ---- numbers
+
+-- `NonZero::new`
+abbrev pub non-zero : ℕ → Option ℕ
+non-zero n = if n == 0 then none else some n
+
+-- `checked_sub`
+abbrev pub checked-sub : ℕ → ℕ → Option ℕ
+checked-sub m n = if leb n m then some (m - n) else none
+
+-- a digit, lower case
+abbrev pub digit : ℕ → ℕ
+digit d = if ltb d 10 then u16 "0" + d else u16 "a" + (d - 10)
+
+-- the digits of a number in a base, in front of those already found; at most one more than the number says
+unfoldable pub formatted : ℕ → ℕ → ℕ → List ℕ → List ℕ
+formatted base zero n found = digit (n % base) ∷ found
+formatted base (suc more) n found = do
+  let found = digit (n % base) ∷ found
+  let n = n / base
+  if n == 0 then found else formatted base more n found
+
+-- `{}` of a `u32`: decimal. A `u32` has at most 32 digits in any base.
+abbrev pub display : ℕ → List ℕ
+display n = formatted 10 31 n []
+
+-- `{:#x}` of a `u32`: `0x` and lower-case hexadecimal
+abbrev pub lower-hex : ℕ → List ℕ
+lower-hex n = str "0x" ++ formatted 16 31 n []
+
+-- ---- the map
+
+-- `Ordering`
+pub data Ordering : Type 0 where
+  Less Equal Greater : Ordering
+
+-- the type of an order of keys
+abbrev pub Compare : Type 0
+Compare = List ℕ → List ℕ → Ordering
+
+-- what the first units say, or where they are equal those behind them
+abbrev pub by-first : ℕ → ℕ → Ordering → Ordering
+by-first x y behind = if ltb x y then Less else if ltb y x then Greater else behind
+
+-- `CompareStringOrdinal` ignoring case, as process 54 - 68 has it: the case of each unit is folded, then units are compared as numbers.
+-- How Windows folds is not in the text given: that is the parameter.
+unfoldable pub compare-string-ordinal : (ℕ → ℕ) → Compare
+compare-string-ordinal fold [] [] = Equal
+compare-string-ordinal fold [] (y ∷ ys) = Less
+compare-string-ordinal fold (x ∷ xs) [] = Greater
+compare-string-ordinal fold (x ∷ xs) (y ∷ ys) = by-first (fold x) (fold y) (compare-string-ordinal fold xs ys)
+
+-- where a key stands against the first of the map
+abbrev pub at-first : Ordering → Entry → Entry → List Entry → List Entry → List Entry
+at-first Less e x xs later = e ∷ x ∷ xs
+at-first Equal e x xs later = record { key = x .key; value = e .value } ∷ xs
+at-first Greater e x xs later = x ∷ later
+
+-- `BTreeMap::insert`, on the entries that the map yields.
+-- A new one goes in front of the first with a greater key; where the key is there, it stays and its value is replaced.
+unfoldable pub insert : Compare → Entry → List Entry → List Entry
+insert compare e [] = e ∷ []
+insert compare e (x ∷ xs) = at-first (compare (e .key) (x .key)) e x xs (insert compare e xs)
+
+-- the entries that the map yields once all of a list are inserted, one after another
+unfoldable pub inserted : Compare → List Entry → List Entry → List Entry
+unfolding insert
+inserted compare yielded [] = yielded
+inserted compare yielded (e ∷ env) = inserted compare (insert compare e yielded) env
+
+-- the `BTreeMap` of a caller's entries, as the entries that it yields
+unfoldable pub btree-map : Compare → List Entry → List Entry
+unfolding inserted
+btree-map compare entries = inserted compare [] entries
 
 -- ---- what is not in the text given
 

@@ -9,9 +9,9 @@ use lib.Dec.{ltb, eqb}
 use Rattle.rules.specs.Choice.{pick, either, both, any, isEmpty}
 use Rattle.rules.specs.Batch.{endsInBackslash}
 use Rattle.laws.specs.Choice.{both-true}
+use Rattle.original.specs.Language.{_==Some_}
+use Rattle.original.specs.Shims.{last, is-high, is-low, pair, code-points, encoded, bytes, as-encoded-bytes}
 use Rattle.original.specs.Laws.{within-least}
-use Rattle.original.specs.Shims.{_==Some_, last}
-use Rattle.original.specs.Wtf8.{is-high, is-low, pair, code-points, encoded, bytes, as-encoded-bytes}
 
 -- ---- a test on bytes that holds of none from 128 up
 module _ (p : ℕ → Bool) (high : (b : ℕ) → 128 ≤ b → p b ≡ false) where
