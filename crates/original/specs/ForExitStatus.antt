@@ -8,13 +8,16 @@ use mathlib.Core.Bool.{Bool, true, false}
 use mathlib.Core.List.{List, [], _∷_, _++_, append-assoc, append-nil}
 use mathlib.Core.Option.{some}
 use lib.Dec.{ltb}
+use lib.ListN.{length}
 use lib.IntN.{pos, _-ℤ_, +ℤ-idr}
 use Rattle.rules.specs.Choice.{pick}
 use Rattle.rules.specs.Unit.{units}
-use Rattle.rules.specs.Status.{glyph, digits, highBit, statusFront, statusText, signedCode}
+use Rattle.rules.specs.Outcome.{done, refuse}
+use Rattle.rules.specs.Status.{glyph, digits, highBit, statusFront, statusText, signedCode, statusOutcome}
 use Rattle.original.specs.Language.{as-i32, and-high-bit}
 use Rattle.original.specs.Shims.{digit, formatted}
 use Rattle.original.specs.ExitStatus.{exit-code, exit-display}
+use Rattle.original.specs.Domain.{gives, port-says, in-domain}
 
 -- ---- the signed code
 
@@ -30,7 +33,7 @@ high-code n h g =
     let d : 2147483648 - suc (n % 2147483648) ≡ 4294967296 - suc n = omega arith in
     rw (e, lt-ltb (n % 2147483648) 2147483648 (omega arith), lt-ltb n 4294967296 g, d)
 
--- the code is the signed code
+-- The code of every `u32` is the signed code.
 pub exit-code-same : (status : ℕ) → status < 4294967296 → exit-code status ≡ some (signedCode status)
 unfolding exit-code signedCode
 exit-code-same status h = go (ltb status highBit) refl
@@ -96,10 +99,10 @@ low-bit n h = omega arith
 high-bit : (n : ℕ) → highBit ≤ n → n < 4294967296 → and-high-bit n ≡ 2147483648
 high-bit n h g = omega arith
 
--- the text is the status text
-pub exit-display-same : (status : ℕ) → status < 4294967296 → exit-display status ≡ statusText status
+-- The text of every `u32` is the status text.
+pub exit-display-is : (status : ℕ) → status < 4294967296 → exit-display status ≡ statusText status
 unfolding exit-display statusText past
-exit-display-same status h = go (ltb status highBit) refl
+exit-display-is status h = go (ltb status highBit) refl
   where
     go : (b : Bool) → ltb status highBit ≡ b → exit-display status ≡ statusFront ++ pick b (digits 10 9 status) (units "0x" ++ digits 16 7 status)
     go true e =
@@ -108,3 +111,14 @@ exit-display-same status h = go (ltb status highBit) refl
     go false e =
         rw (high-bit status (ltb-false status highBit e) h)
         (ap (λ text. statusFront ++ (units "0x" ++ text)) (same-digits 16 sixteen 7 31 status [] (omega arith) (omega arith) ∙ append-nil _))
+
+-- On the oracle's domain the Rust and the port say the same.
+pub exit-display-same : (status room : ℕ) → status < 4294967296
+    → in-domain (statusOutcome status room) ≡ true
+    → gives (exit-display status) ≡ port-says (statusOutcome status room)
+unfolding statusOutcome
+exit-display-same status room u32 h = rw (exit-display-is status u32) (go (ltb room (length (statusText status))) h)
+  where
+    go : (b : Bool) → in-domain (refuse 4 b (done (statusText status))) ≡ true → gives (statusText status) ≡ port-says (refuse 4 b (done (statusText status)))
+    go true h = cc
+    go false h = refl
