@@ -22,3 +22,4 @@ pub mod ForMakeEnvp
 pub mod ForHasBatExtension
 pub mod ForExitStatus
 pub mod Outside
+pub mod Pinned

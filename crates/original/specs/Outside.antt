@@ -1,30 +1,34 @@
--- Why each hypothesis of the theorems is there: for each a smallest input outside it, where the Rust and the port part. Assumes nothing.
+-- Why each hypothesis of the theorems is there: a smallest input outside it, where the two sides of the theorem part. Assumes nothing.
+-- Smallest is by the number of records, then of lent units, then of lent room and places.
+use Prim.Native.Nat.{ℕ, _-_}
 use mathlib.Core.Path.{_≡_, refl}
 use mathlib.Core.Bool.{true, false}
-use mathlib.Core.List.{[], _∷_, _++_}
+use mathlib.Core.List.{List, [], _∷_, _++_}
 use mathlib.Core.Option.{some}
-use lib.Dec.{ltb}
 use lib.ListN.{replicate}
-use Rattle.rules.specs.Choice.{pick}
-use Rattle.rules.specs.Unit.{units, nul}
-use Rattle.rules.specs.Record.{entriesOf}
+use lib.IntN.{pos, negℤ}
+use Rattle.rules.specs.Choice.{pick, any}
+use Rattle.rules.specs.Unit.{units, within, nul, carriageReturn, quote, equals}
+use Rattle.rules.specs.Record.{regular, argumentsOf, entriesOf}
 use Rattle.rules.specs.Batch.{batchForm}
-use Rattle.rules.specs.Building.{commandLine, batchCommandLine}
+use Rattle.rules.specs.Building.{nulFinding, batchFront, commandLine, batchCommandLine}
 use Rattle.rules.specs.Block.{environmentBlock}
 use Rattle.rules.specs.Reading.{reading}
-use Rattle.rules.specs.Status.{statusText}
-use Rattle.original.specs.Shims.{Ok, w-str-units, Less, Equal, Greater, Compare, btree-map}
+use Rattle.rules.specs.Status.{signedCode, statusOutcome}
+use Rattle.original.specs.Language.{_==_}
+use Rattle.original.specs.Shims.{Ok, w-str-units, as-encoded-bytes, btree-map}
+use Rattle.original.specs.AppendArg.{Regular}
 use Rattle.original.specs.AppendBatArg.{append-bat-arg}
 use Rattle.original.specs.MakeCommandLine.{make-command-line}
-use Rattle.original.specs.MakeBatCommandLine.{make-bat-command-line}
-use Rattle.original.specs.ParseLpCmdLine.{parse-lp-cmd-line}
-use Rattle.original.specs.MakeEnvp.{make-envp}
-use Rattle.original.specs.ExitStatus.{exit-display}
-use Rattle.original.specs.Domain.{Told, gives, refuses, rust-says, port-says, in-domain}
+use Rattle.original.specs.MakeBatCommandLine.{Append, make-bat-command-line-by, make-bat-command-line}
+use Rattle.original.specs.ParseLpCmdLine.{while-w, parse-lp-cmd-line}
+use Rattle.original.specs.MakeEnvp.{cmp, make-envp}
+use Rattle.original.specs.ExitStatus.{exit-code, exit-display}
+use Rattle.original.specs.Domain.{Told, gives, refuses, rust-says, port-says, finding-says, in-domain, args-of}
 
--- what the Rust says, beside what the port says
-abbrev pub Parts : {A : Type 0} → Told A → Told A → Told A → Told A → Type 0
-Parts rust said port says = (rust ≡ said) × (port ≡ says)
+-- what the Rust says, and what the port says
+abbrev pub Sides : Type 0 → Type 0
+Sides A = Told A × Told A
 
 -- ---- inside: a result, 5, 6 and 7 are in the domain, 1 to 4 are not
 
@@ -36,8 +40,8 @@ pub in-and-out :
     ∷ in-domain (commandLine false (replicate 32766 97) [] [] 32768)
     ∷ in-domain (commandLine false [] [] [] 1)
     ∷ in-domain (batchCommandLine false [] [] [] 31)
-    ∷ in-domain (batchCommandLine false (34 ∷ []) [] [] 0)
-    ∷ in-domain (batchCommandLine false [] (0 ∷ 0 ∷ 1 ∷ []) (13 ∷ []) 0)
+    ∷ in-domain (batchCommandLine false (quote ∷ []) [] [] 0)
+    ∷ in-domain (batchCommandLine false [] (0 ∷ 0 ∷ 1 ∷ []) (carriageReturn ∷ []) 0)
     ∷ in-domain (reading [] [] 0 2)
     ∷ in-domain (reading [] [] 0 1)
     ∷ []
@@ -47,127 +51,185 @@ in-and-out = refl
 
 -- ---- `make_command_line`
 
--- A NUL in the program: the comment on the function promises an error for it, the code has no such test, the port has.
-pub nul-in-program :
-    Parts (rust-says (make-command-line (nul ∷ []) [] false)) (gives (34 ∷ 0 ∷ 34 ∷ []))
-    (port-says (commandLine false (nul ∷ []) [] [] 3)) (refuses 5)
-unfolding make-command-line commandLine
-nul-in-program = (refl, refl)
+-- the two sides of `make-command-line-same`, quotes not forced
+abbrev pub line-sides : List ℕ → List ℕ → List ℕ → ℕ → Sides (List ℕ)
+line-sides program records text room =
+    (rust-says (make-command-line program (args-of (argumentsOf text records)) false), port-says (commandLine false program records text room))
 
--- 1: a flat list that ends inside a record; the Rust has no records
-pub record-cut : Parts (rust-says (make-command-line [] [] false)) (gives (34 ∷ 34 ∷ [])) (port-says (commandLine false [] (0 ∷ []) [] 2)) (refuses 1)
+-- a NUL in the program: the Rust's comment (process 861 - 862) promises an error for it, the code has no such test, the port has
+pub nul-in-program : line-sides (nul ∷ []) [] [] 0 ≡ (gives (quote ∷ nul ∷ quote ∷ []), refuses 5)
 unfolding make-command-line commandLine
-record-cut = (refl, refl)
+nul-in-program = refl
+
+-- 1: a flat list that ends inside a record. The Rust has no records, and gets the whole ones.
+pub line-record-cut : line-sides [] (0 ∷ []) [] 2 ≡ (gives (quote ∷ quote ∷ []), refuses 1)
+unfolding make-command-line commandLine
+line-record-cut = refl
 
 -- 2: a line of 32,768 units
-pub line-too-long :
-    Parts
-    (rust-says (make-command-line (replicate 32766 97) [] false))
-    (gives (34 ∷ replicate 32766 97 ++ 34 ∷ []))
-    (port-says (commandLine false (replicate 32766 97) [] [] 32768))
-    (refuses 2)
+pub line-too-long : line-sides (replicate 32766 97) [] [] 0 ≡ (gives (quote ∷ replicate 32766 97 ++ quote ∷ []), refuses 2)
 unfolding make-command-line commandLine
-line-too-long = (refl, refl)
+line-too-long = refl
 
--- 4: no room for the last unit
-pub line-without-room : Parts (rust-says (make-command-line [] [] false)) (gives (34 ∷ 34 ∷ [])) (port-says (commandLine false [] [] [] 1)) (refuses 4)
+-- 4: no room
+pub line-without-room : line-sides [] [] [] 0 ≡ (gives (quote ∷ quote ∷ []), refuses 4)
 unfolding make-command-line commandLine
-line-without-room = (refl, refl)
+line-without-room = refl
 
--- ---- `make_bat_command_line` and `append_bat_arg`
+-- ---- `make_bat_command_line`
 
--- a NUL in a script before its end
-pub nul-in-script :
-    Parts
-    (rust-says (make-bat-command-line (nul ∷ nul ∷ []) [] false))
-    (gives (units "cmd.exe /e:ON /v:OFF /d /c \"" ++ 34 ∷ 0 ∷ 34 ∷ 34 ∷ []))
-    (port-says (batchCommandLine false (nul ∷ nul ∷ []) [] [] 32))
-    (refuses 5)
+-- the two sides of `make-bat-command-line-same`, quotes not forced
+abbrev pub batch-sides : List ℕ → List ℕ → List ℕ → ℕ → Sides (List ℕ)
+batch-sides script records text room =
+    (rust-says (make-bat-command-line script (args-of (argumentsOf text records)) false), port-says (batchCommandLine false script records text room))
+
+-- the batch line of a script without arguments
+abbrev pub only-script : List ℕ → List ℕ
+only-script script = batchFront ++ quote ∷ script ++ quote ∷ quote ∷ []
+
+-- a NUL in the script before its end
+pub nul-in-script : batch-sides (nul ∷ nul ∷ []) [] [] 0 ≡ (gives (only-script (nul ∷ [])), refuses 5)
 unfolding make-bat-command-line batchCommandLine
-nul-in-script = (refl, refl)
+nul-in-script = refl
 
--- 4: no room for the last unit
-pub batch-without-room :
-    Parts
-    (rust-says (make-bat-command-line [] [] false))
-    (gives (units "cmd.exe /e:ON /v:OFF /d /c \"" ++ 34 ∷ 34 ∷ 34 ∷ []))
-    (port-says (batchCommandLine false [] [] [] 30))
-    (refuses 4)
+-- 1: a flat list that ends inside a record
+pub batch-record-cut : batch-sides [] (0 ∷ []) [] 31 ≡ (gives (only-script []), refuses 1)
 unfolding make-bat-command-line batchCommandLine
-batch-without-room = (refl, refl)
+batch-record-cut = refl
 
--- A CR, given to `append_bat_arg` itself, is written as a `%` is. From `make_bat_command_line` none comes.
-pub return-in-argument : (append-bat-arg [] (13 ∷ []) false ≡ Ok (units "\"%%cd:~,\r\"")) × (batchForm false (13 ∷ []) ≡ units "\"\r\"")
+-- 2: a batch line of 32,768 units
+pub batch-too-long : batch-sides (replicate 32737 97) [] [] 0 ≡ (gives (only-script (replicate 32737 97)), refuses 2)
+unfolding make-bat-command-line batchCommandLine
+batch-too-long = refl
+
+-- 4: no room
+pub batch-without-room : batch-sides [] [] [] 0 ≡ (gives (only-script []), refuses 4)
+unfolding make-bat-command-line batchCommandLine
+batch-without-room = refl
+
+-- a call that appends nothing, which is not `append_bat_arg` on an argument without CR
+abbrev pub append-nothing : Append
+append-nothing cmd arg quote = Ok cmd
+
+-- `carriage-return-unreached` asks that a call is `append_bat_arg` on every argument without CR: with another, on one that is empty, lines differ
+pub call-differs :
+    make-bat-command-line-by append-nothing [] (Regular [] ∷ []) false ∷ make-bat-command-line [] (Regular [] ∷ []) false ∷ []
+    ≡ Ok (batchFront ++ units "\"\" \"") ∷ Ok (batchFront ++ units "\"\" \"\"\"") ∷ []
+unfolding make-bat-command-line batchFront
+call-differs = refl
+
+-- ---- `append_bat_arg`
+
+-- the two sides of `append-bat-arg-same` on a regular argument, quotes not forced
+abbrev pub argument-sides : List ℕ → Sides (List ℕ)
+argument-sides arg = (rust-says (append-bat-arg [] arg false), finding-says (nulFinding (record { kind = regular; content = arg })) (batchForm false arg))
+
+-- a CR, given to the function itself, is written as a `%` is. From `make_bat_command_line` none comes.
+pub return-in-argument :
+    argument-sides (carriageReturn ∷ []) ≡ (gives (units "\"%%cd:~,\r\""), gives (units "\"\r\""))
 unfolding append-bat-arg batchForm
-return-in-argument = (refl, refl)
-
--- No difference, but easily made one: the test on a final backslash looks before the final NUL is dropped, here as in the Rust.
-pub backslash-before-nul :
-    rust-says (make-bat-command-line (92 ∷ nul ∷ []) [] false) ≡ port-says (batchCommandLine false (92 ∷ nul ∷ []) [] [] 32)
-unfolding make-bat-command-line batchCommandLine
-backslash-before-nul = refl
+return-in-argument = refl
 
 -- ---- `make_envp`
 
--- an order of keys, by their units
-unfoldable pub by-units : Compare
-by-units [] [] = Equal
-by-units [] (y ∷ ys) = Less
-by-units (x ∷ xs) [] = Greater
-by-units (x ∷ xs) (y ∷ ys) = pick (ltb x y) Less (pick (ltb y x) Greater (by-units xs ys))
+-- the case of letters A to Z folded, and of no other unit
+abbrev pub upper : ℕ → ℕ
+upper x = pick (within 97 122 x) (x - 32) x
 
--- keys out of order: B and A, without values. The map yields A first.
+-- the two sides of `make-envp-same`, in an order that ignores the case of A to Z
+abbrev pub block-sides : List ℕ → List ℕ → ℕ → Sides (List ℕ)
+block-sides records text room =
+    (rust-says (make-envp (some (btree-map (cmp upper) (entriesOf text records)))), port-says (environmentBlock records text room))
+
+-- 1: a flat list that ends inside a record
+pub block-record-cut : block-sides (0 ∷ []) [] 2 ≡ (gives (nul ∷ nul ∷ []), refuses 1)
+unfolding make-envp btree-map cmp entriesOf environmentBlock
+block-record-cut = refl
+
+-- 2: a block of 65,537 units, of one entry whose key and value are one text; with one unit less in it there are 65,535
+pub block-too-long :
+    block-sides (0 ∷ 32767 ∷ 0 ∷ 32767 ∷ []) (replicate 32767 97) 0
+    ≡ (gives (replicate 32767 97 ++ equals ∷ replicate 32767 97 ++ nul ∷ nul ∷ []), refuses 2)
+unfolding make-envp btree-map cmp entriesOf environmentBlock
+block-too-long = refl
+
+-- 4: no room
+pub block-without-room : block-sides [] [] 0 ≡ (gives (nul ∷ nul ∷ []), refuses 4)
+unfolding make-envp btree-map cmp entriesOf environmentBlock
+block-without-room = refl
+
+-- keys out of order: `A`, then an empty one, without values. The map yields the empty one first.
 pub keys-out-of-order :
-    Parts
-    (rust-says (make-envp (some (btree-map by-units (entriesOf (66 ∷ 65 ∷ []) (0 ∷ 1 ∷ 0 ∷ 0 ∷ 1 ∷ 1 ∷ 0 ∷ 0 ∷ []))))))
-    (gives (65 ∷ 61 ∷ 0 ∷ 66 ∷ 61 ∷ 0 ∷ 0 ∷ []))
-    (port-says (environmentBlock (0 ∷ 1 ∷ 0 ∷ 0 ∷ 1 ∷ 1 ∷ 0 ∷ 0 ∷ []) (66 ∷ 65 ∷ []) 7))
-    (gives (66 ∷ 61 ∷ 0 ∷ 65 ∷ 61 ∷ 0 ∷ 0 ∷ []))
-unfolding make-envp btree-map entriesOf environmentBlock by-units
-keys-out-of-order = (refl, refl)
+    block-sides (0 ∷ 1 ∷ 0 ∷ 0 ∷ 0 ∷ 0 ∷ 0 ∷ 0 ∷ []) (units "A") 6
+    ≡ (gives (units "=" ++ nul ∷ units "A=" ++ nul ∷ nul ∷ []), gives (units "A=" ++ nul ∷ units "=" ++ nul ∷ nul ∷ []))
+unfolding make-envp btree-map cmp entriesOf environmentBlock units
+keys-out-of-order = refl
 
--- keys that are not distinct: A twice, with the values 1 and 2. The map has the last.
+-- keys that are not distinct: the empty one twice. The map yields one entry.
 pub keys-equal :
-    Parts
-    (rust-says (make-envp (some (btree-map by-units (entriesOf (65 ∷ 49 ∷ 50 ∷ []) (0 ∷ 1 ∷ 1 ∷ 1 ∷ 0 ∷ 1 ∷ 2 ∷ 1 ∷ []))))))
-    (gives (65 ∷ 61 ∷ 50 ∷ 0 ∷ 0 ∷ []))
-    (port-says (environmentBlock (0 ∷ 1 ∷ 1 ∷ 1 ∷ 0 ∷ 1 ∷ 2 ∷ 1 ∷ []) (65 ∷ 49 ∷ 50 ∷ []) 9))
-    (gives (65 ∷ 61 ∷ 49 ∷ 0 ∷ 65 ∷ 61 ∷ 50 ∷ 0 ∷ 0 ∷ []))
-unfolding make-envp btree-map entriesOf environmentBlock by-units
-keys-equal = (refl, refl)
+    block-sides (0 ∷ 0 ∷ 0 ∷ 0 ∷ 0 ∷ 0 ∷ 0 ∷ 0 ∷ []) [] 5
+    ≡ (gives (units "=" ++ nul ∷ nul ∷ []), gives (units "=" ++ nul ∷ units "=" ++ nul ∷ nul ∷ []))
+unfolding make-envp btree-map cmp entriesOf environmentBlock units
+keys-equal = refl
 
--- 4: no room for the last unit
-pub block-without-room : Parts (rust-says (make-envp (some []))) (gives (0 ∷ 0 ∷ [])) (port-says (environmentBlock [] [] 1)) (refuses 4)
-unfolding make-envp environmentBlock
-block-without-room = (refl, refl)
+-- keys that differ only in case: `a`, then `A`. The map yields one entry, under the first.
+pub keys-equal-but-for-case :
+    block-sides (0 ∷ 1 ∷ 0 ∷ 0 ∷ 1 ∷ 1 ∷ 0 ∷ 0 ∷ []) (units "aA") 7
+    ≡ (gives (units "a=" ++ nul ∷ nul ∷ []), gives (units "a=" ++ nul ∷ units "A=" ++ nul ∷ nul ∷ []))
+unfolding make-envp btree-map cmp entriesOf environmentBlock units
+keys-equal-but-for-case = refl
 
 -- ---- `parse_lp_cmd_line`
 
+-- the two sides of `parse-lp-cmd-line-same`, with an empty executable name
+abbrev pub read-sides : List ℕ → ℕ → ℕ → Sides (List (List ℕ))
+read-sides lent room numbers = (gives (parse-lp-cmd-line (some (w-str-units lent)) []), port-says (reading [] lent room numbers))
+
 -- 2: a line of 32,768 units
-pub read-too-long :
-    Parts
-    (gives (parse-lp-cmd-line (some (w-str-units (replicate 32768 97))) []))
-    (gives (replicate 32768 97 ∷ []))
-    (port-says (reading [] (replicate 32768 97) 32768 2))
-    (refuses 2)
+pub read-too-long : read-sides (replicate 32768 97) 0 0 ≡ (gives (replicate 32768 97 ∷ []), refuses 2)
 unfolding parse-lp-cmd-line w-str-units reading
-read-too-long = (refl, refl)
+read-too-long = refl
 
 -- 3: no place for the argument
-pub read-without-place :
-    Parts (gives (parse-lp-cmd-line (some (w-str-units [])) [])) (gives ([] ∷ [])) (port-says (reading [] [] 0 1)) (refuses 3)
+pub read-without-place : read-sides [] 0 0 ≡ (gives ([] ∷ []), refuses 3)
 unfolding parse-lp-cmd-line w-str-units reading
-read-without-place = (refl, refl)
+read-without-place = refl
 
 -- 4: no room for the unit
-pub read-without-room :
-    Parts (gives (parse-lp-cmd-line (some (w-str-units (97 ∷ []))) [])) (gives ((97 ∷ []) ∷ [])) (port-says (reading [] (97 ∷ []) 0 2)) (refuses 4)
+pub read-without-room : read-sides (97 ∷ []) 0 2 ≡ (gives ((97 ∷ []) ∷ []), refuses 4)
 unfolding parse-lp-cmd-line w-str-units reading
-read-without-room = (refl, refl)
+read-without-room = refl
+
+-- `while-same` asks for as many turns as there are units: without one, a unit is left
+pub turns-too-few :
+    while-w 0 [] [] false (97 ∷ []) ∷ while-w 1 [] [] false (97 ∷ []) ∷ [] ≡ ([], [], false, 97 ∷ []) ∷ ([], 97 ∷ [], false, []) ∷ []
+unfolding while-w
+turns-too-few = refl
 
 -- ---- `ExitStatus`
 
--- a number that is no status: of 4,294,967,296 the high bit of the lower 32 is not set
-pub no-status : (exit-display 4294967296 ≡ units "exit code: 4294967296") × (statusText 4294967296 ≡ units "exit code: 0x00000000")
-unfolding exit-display statusText
-no-status = (refl, refl)
+-- the two sides of `exit-code-same`: 4,294,967,296 is no `u32`
+pub no-status-code : exit-code 4294967296 ∷ some (signedCode 4294967296) ∷ [] ≡ some (negℤ (pos 4294967296)) ∷ some (pos 0) ∷ []
+unfolding exit-code signedCode
+no-status-code = refl
+
+-- the two sides of `exit-display-same`
+abbrev pub status-sides : ℕ → ℕ → Sides (List ℕ)
+status-sides status room = (gives (exit-display status), port-says (statusOutcome status room))
+
+-- of 4,294,967,296, which is no `u32`, the high bit of the lower 32 is not set
+pub no-status : status-sides 4294967296 21 ≡ (gives (units "exit code: 4294967296"), gives (units "exit code: 0x00000000"))
+unfolding exit-display statusOutcome
+no-status = refl
+
+-- 4: no room
+pub status-without-room : status-sides 0 0 ≡ (gives (units "exit code: 0"), refuses 4)
+unfolding exit-display statusOutcome
+status-without-room = refl
+
+-- ---- texts
+
+-- `any-bytes` asks for a test that holds of no number from 128 up: that a number is 0xc2 holds of a byte of U+0080, and of no unit of it
+pub test-above : any (λ b. b == 0xc2) (as-encoded-bytes (0x80 ∷ [])) ∷ any (λ b. b == 0xc2) (0x80 ∷ []) ∷ [] ≡ true ∷ false ∷ []
+unfolding as-encoded-bytes
+test-above = refl
