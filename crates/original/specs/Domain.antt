@@ -1,6 +1,6 @@
 -- What the Rust and the port say, side by side, and on which inputs: the oracle's domain. Assumes nothing.
--- "The oracle's domain is: inputs that the port doesn't refuse by 1, 2, 3 or 4, with no NUL in program or script save one final NUL of a script;
--- for blocks, also entries with distinct keys in the order of the Rust's map."
+-- 01's domain is "inputs that the port doesn't refuse by 1, 2, 3 or 4", "with no NUL in program or script save one final NUL of a script".
+-- Its last words: "for blocks, also entries with distinct keys in the order of the Rust's map."
 use Prim.Native.Nat.{ℕ}
 use mathlib.Core.Bool.{Bool, true}
 use mathlib.Core.List.{List, map}

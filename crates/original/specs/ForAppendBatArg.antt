@@ -181,8 +181,8 @@ loop xs c q cmd = writes q xs c 0 cmd cmd (rw append-nil)
 
 -- ---- the argument
 
--- An argument with no CR and no NUL is appended in its batch form, and one with a NUL is refused by 5, whether quotes are forced or not. With a
--- CR it is never called: see `carriage-return-unreached` in ForMakeBatCommandLine.
+-- An argument with no CR and no NUL is appended in its batch form, and one with a NUL is refused by 5, whether quotes are forced or not.
+-- With a CR it is never called: see `carriage-return-unreached` in ForMakeBatCommandLine.
 pub append-bat-arg-same : (force : Bool) (cmd : List ℕ) (a : Argument) → any isReturn (a .content) ≡ false
     → rust-says (append-bat-arg cmd (a .content) force) ≡ finding-says (nulFinding a) (cmd ++ batchForm force (a .content))
 unfolding append-bat-arg batchForm

@@ -75,8 +75,8 @@ module _ (base : ℕ) (b : Base base) where
   last-digit zero n found h = rw (digit-same (n % base))
   last-digit (suc more) n found h = rw (b .none-left n h, digit-same (n % base))
 
-  -- Both find the same digits, one writes them in front of those found, the other behind. How many there may be does not matter where there is
-  -- no digit more.
+  -- Both find the same digits, one writes them in front of those found, the other behind.
+  -- How many there may be does not matter where there is no digit more.
   same-digits : (fuel more n : ℕ) (found : List ℕ) → fuel ≤ more → n < past base fuel → formatted base more n found ≡ digits base fuel n ++ found
   unfolding past digits formatted
   same-digits zero more n found l h = last-digit more n found h

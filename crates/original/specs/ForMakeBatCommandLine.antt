@@ -88,8 +88,8 @@ module _ (call : Append)
       go (Ok next) ih = ih next
       go (Err e) ih = refl
 
-  -- The CR case of `append_bat_arg` cannot be reached: whatever it did with an argument that has a CR, and it may do anything here, no line and no
-  -- error would be another, for all scripts and arguments.
+  -- For no script and no arguments is the CR case of `append_bat_arg` reached.
+  -- Whatever it did with an argument that has a CR, and it may do anything here, no line and no error would be another.
   pub carriage-return-unreached : (script : List ℕ) (args : List Arg) (force : Bool)
       → make-bat-command-line-by call script args force ≡ make-bat-command-line script args force
   unfolding make-bat-command-line

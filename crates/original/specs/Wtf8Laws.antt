@@ -54,8 +54,8 @@ module _ (p : ℕ → Bool) (high : (b : ℕ) → 128 ≤ b → p b ≡ false) w
 
 -- ---- the last byte, and whether there is one
 
--- the bytes of a code point with others behind: there is one, and the last byte is a backslash where the code point is one and none are behind,
--- or the last of those behind is
+-- The bytes of a code point with others behind: there is one.
+-- The last byte is a backslash where the code point is one and none are behind, or the last of those behind is.
 record Behind (cp : ℕ) (rest : List ℕ) (whole : List ℕ) : Type 0 where
   some-byte : isEmpty whole ≡ false
   last-byte : last whole ==Some 92 ≡ pick (isEmpty rest) (eqb cp 92) (last rest ==Some 92)
