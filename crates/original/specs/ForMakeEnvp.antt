@@ -1,5 +1,6 @@
 -- `make_envp` writes the block of the rules. Assumes nothing.
 -- The order of keys is a parameter: whatever it is, entries whose keys stand in it, each above all before it, are what the map yields.
+-- `cmp` (MakeEnvp), the order of `EnvKey`, is one such for each way to fold case.
 use Prim.Native.Nat.{ℕ}
 use mathlib.Core.Path.{_≡_, refl, sym, ap, _∙_}
 use mathlib.Core.Bool.{Bool, true, false}

@@ -7,10 +7,10 @@ use Rattle.rules.specs.Record.{Entry}
 use Rattle.original.specs.Language.{if_then_else_, u16}
 use Rattle.original.specs.Shims.{Result, Ok, ensure-no-nuls, push, extend, is-empty, encode-wide, Compare, compare-string-ordinal, _>>=_}
 
--- `Ord` of `EnvKey`, over how Windows folds the case of a unit
+-- `Ord` of `EnvKey`, over how Windows folds the case of a unit. Left out is process 89, a panic where Windows fails to compare.
 unfoldable pub cmp : (ℕ → ℕ) → Compare
 unfolding compare-string-ordinal
-cmp fold self other = compare-string-ordinal fold self other  -- process 75 - 92
+cmp fold self other = compare-string-ordinal fold self other  -- process 77 - 87
 
 -- the loop over the entries
 unfoldable pub for-env : List ℕ → List Entry → Result (List ℕ)

@@ -48,7 +48,7 @@ controls = refl
 
 -- ---- the map
 
--- an entry of two quoted texts
+-- an entry of a key and a value
 abbrev entry : List ℕ → List ℕ → Entry
 entry k v = record { key = k; value = v }
 
@@ -93,10 +93,15 @@ pub quote-closes : read-sides (units " \"\" ") 0 4 ≡ (gives ([] ∷ [] ∷ [])
 unfolding parse-lp-cmd-line w-str-units reading units
 quote-closes = refl
 
--- the list of rules in args 90 - 101 does not say what is given at the end of the line: in quotes an argument is, though it is empty
+-- The list of rules in args 90 - 101 does not say what is given at the end of the line: in quotes an argument is, though it is empty.
 pub quote-at-end : read-sides (units " \"") 0 4 ≡ (gives ([] ∷ [] ∷ []), gives ([] ∷ [] ∷ []))
 unfolding parse-lp-cmd-line w-str-units reading units
 quote-at-end = refl
+
+-- args 299 has only the first and the last word of the front that line 304 writes
+pub whole-front : batch-sides [] [] [] 31 ≡ (gives (units "cmd.exe /e:ON /v:OFF /d /c \"\"\"\""), gives (units "cmd.exe /e:ON /v:OFF /d /c \"\"\"\""))
+unfolding make-bat-command-line batchCommandLine units
+whole-front = refl
 
 -- args 308 - 309 says that a script which ends with a backslash is an error. Line 310 looks before the final NUL is dropped, and finds none.
 pub backslash-before-nul : batch-sides (backslash ∷ nul ∷ []) [] [] 32 ≡ (gives (only-script (backslash ∷ [])), gives (only-script (backslash ∷ [])))
