@@ -4,12 +4,12 @@ use mathlib.Core.Path.{_≡_, refl}
 use mathlib.Core.Bool.{true, false}
 use mathlib.Core.List.{List, [], _∷_, map}
 use mathlib.Core.Option.{none, some}
-use Rattle.rules.specs.Unit.{units, nul, backslash}
+use Rattle.rules.specs.Unit.{units, nul, tab, space, quote, backslash}
 use Rattle.rules.specs.Record.{Entry}
 use Rattle.rules.specs.Building.{batchCommandLine}
 use Rattle.rules.specs.Reading.{reading}
 use Rattle.original.specs.Shims.{Ok, Less, Equal, Greater, is-control, code-points, to-char, as-encoded-bytes, w-str-units, btree-map}
-use Rattle.original.specs.ParseLpCmdLine.{parse-lp-cmd-line}
+use Rattle.original.specs.ParseLpCmdLine.{BACKSLASH, QUOTE, TAB, SPACE, parse-lp-cmd-line}
 use Rattle.original.specs.MakeBatCommandLine.{make-bat-command-line}
 use Rattle.original.specs.MakeEnvp.{cmp, make-envp}
 use Rattle.original.specs.Domain.{gives}
@@ -75,6 +75,10 @@ unfolding make-envp
 no-environment = refl
 
 -- ---- lines
+
+-- the constants of `parse_lp_cmd_line` (args 58 - 61): none of them is 0, so their `unwrap` finds a number
+pub constants : BACKSLASH ∷ QUOTE ∷ TAB ∷ SPACE ∷ [] ≡ backslash ∷ quote ∷ tab ∷ space ∷ []
+constants = refl
 
 -- a null line: the executable name
 pub null-line : parse-lp-cmd-line none (units "x") ≡ units "x" ∷ []

@@ -2,7 +2,7 @@
 -- A vector is a list, and what is pushed comes to its end. A text (`OsStr`, `OsString`) is its units.
 -- Units are `u16` in the Rust; no definition and no theorem here needs that they are below 65,536.
 -- Borrowed from `rules`: `any` and `isEmpty` (Choice), `units` and `within` (Unit), `Entry` (Record).
--- Nothing stands for what changes no value: `as_ref`, `as_inner`, `iter`, `collect`, `map` to one value, `NonZero::get`.
+-- Nothing stands for what changes no value: `as_ref`, `as_inner`, `iter`, `collect`, `NonZero::get`.
 use Prim.Native.Nat.{ℕ, zero, suc, _+_, _-_, _*_, _/_, _%_}
 use Prim.Native.String.{String}
 use mathlib.Core.Bool.{Bool, true, false}
@@ -34,7 +34,8 @@ abbrev pub unwrap-or {ℓ} : {A : Type ℓ} → Option A → A → A
 unwrap-or none other = other
 unwrap-or (some a) other = a
 
--- `unwrap`: where there is none the Rust panics. What stands for that is given first; `unwrap-unreached` (ForParseLpCmdLine) shows that it never counts.
+-- `unwrap`: where there is none the Rust panics. What stands for that is given first.
+-- It never counts: `unwrap-unreached` (ForParseLpCmdLine) and, of the constants, `constants` (Pinned).
 abbrev pub unwrap {ℓ} : {A : Type ℓ} → A → Option A → A
 unwrap panic none = panic
 unwrap panic (some a) = a
