@@ -12,9 +12,9 @@ use Rattle.original.specs.Shims.{Error, nul-found, invalid-argument, inv
 use Rattle.original.specs.AppendArg.{Arg, Regular, Raw}
 
 -- a result, or a refusal's number; the Rust gives no place
-pub data Told (A : Type 0) : Type 0 where
-  gives : A → Told A
-  refuses : ℕ → Told A
+pub data Verdict (A : Type 0) : Type 0 where
+  gives : A → Verdict A
+  refuses : ℕ → Verdict A
 
 -- the document's number of an error
 abbrev pub number-of : Error → ℕ
@@ -23,22 +23,22 @@ number-of invalid-argument = 6
 number-of invalid-script = 7
 
 -- what the Rust says
-abbrev pub rust-says : {A : Type 0} → Result A → Told A
+abbrev pub rust-says : {A : Type 0} → Result A → Verdict A
 rust-says (Ok a) = gives a
 rust-says (Err e) = refuses (number-of e)
 
 -- what the port says
-abbrev pub port-says : {A : Type 0} → Outcome A → Told A
+abbrev pub port-says : {A : Type 0} → Outcome A → Verdict A
 port-says (done a) = gives a
 port-says (refused number place) = refuses number
 
 -- what the port says of one argument, where nothing else is wrong
-abbrev pub finding-says : {A : Type 0} → Finding → A → Told A
+abbrev pub finding-says : {A : Type 0} → Finding → A → Verdict A
 finding-says sound a = gives a
 finding-says (wrong number) a = refuses number
 
 -- what the port says of a list, where nothing else is wrong
-abbrev pub fault-says : {A : Type 0} → Fault → A → Told A
+abbrev pub fault-says : {A : Type 0} → Fault → A → Verdict A
 fault-says faultless a = gives a
 fault-says (fault number place) a = refuses number
 

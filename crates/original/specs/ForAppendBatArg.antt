@@ -20,7 +20,7 @@ use Rattle.original.specs.AppendBatArg.{UNQUOTED, for-code-points, for-b
 use Rattle.original.specs.Domain.{rust-says, finding-says}
 use Rattle.original.specs.Loops.{ensured-says}
 use Rattle.laws.specs.Choice.{both-true}
-use Rattle.original.specs.Laws.{within-least, either-false, slashes-push, slashes-twice, closed, at-end, appended}
+use Rattle.original.specs.Laws.{within-least, either-false, slashes-push, slashes-twice, closed, at-end, between-quotes}
 use Rattle.original.specs.Wtf8Laws.{last-bytes}
 
 -- ---- the decision on quotes
@@ -130,54 +130,54 @@ in-turn false true c false = refl
 in-turn false false c f = refl
 
 -- the Rust's decision is the rule's
-quoted : (force : Bool) (xs : List ℕ)
+bat-quotes-same : (force : Bool) (xs : List ℕ)
     → for-code-points (pick (either (isEmpty xs) (last (as-encoded-bytes xs) ==Some 92)) true force) (code-points xs) ≡ needsBatchQuotes force xs
 unfolding needsBatchQuotes
-quoted force xs = rw (last-bytes xs, decides xs) (in-turn (isEmpty xs) (endsInBackslash xs) (any isForcing xs) force)
+bat-quotes-same force xs = rw (last-bytes xs, decides xs) (in-turn (isEmpty xs) (endsInBackslash xs) (any isForcing xs) force)
 
 -- ---- the loop
 
 -- a `%`, or another unit
 data Hack : ℕ → Type 0 where
-  hidden : Hack 37
-  shown : {x : ℕ} → isPercent x ≡ false → Hack x
+  percent-sign : Hack 37
+  no-percent : {x : ℕ} → isPercent x ≡ false → Hack x
 
 -- which of the two a unit is
 hack : (x : ℕ) → Hack x
 hack x = go (isPercent x) refl
   where
     go : (b : Bool) → isPercent x ≡ b → Hack x
-    go true e = rw (eqb-true x 37 e) hidden
-    go false e = shown e
+    go true e = rw (eqb-true x 37 e) percent-sign
+    go false e = no-percent e
 
 -- CR
 abbrev pub isReturn : ℕ → Bool
 isReturn x = eqb x carriageReturn
 
 -- behind k backslashes that are written already, the loop and what closes write the units that `batchEscaped` has
-abbrev Writes : Bool → List ℕ → Type 0
-Writes q xs =
+abbrev BatWrites : Bool → List ℕ → Type 0
+BatWrites q xs =
     any isReturn xs ≡ false → (k : ℕ) (front cmd : List ℕ) → cmd ≡ front ++ slashes k → closed q (for-bat-units cmd k xs) ≡ front ++ batchEscaped q k xs
 
-writes-step : (q : Bool) {x : ℕ} (xs : List ℕ) → Kind x → Hack x → Writes q xs → Writes q (x ∷ xs)
+bat-writes-step : (q : Bool) {x : ℕ} (xs : List ℕ) → Kind x → Hack x → BatWrites q xs → BatWrites q (x ∷ xs)
 unfolding for-bat-units batchEscaped
-writes-step q xs slash h ih c k front cmd e = ih c (k + 1) front _ (rw (e, append-assoc front, slashes-push k))
-writes-step q xs marked h ih c k front cmd e =
+bat-writes-step q xs slash h ih c k front cmd e = ih c (k + 1) front _ (rw (e, append-assoc front, slashes-push k))
+bat-writes-step q xs marked h ih c k front cmd e =
     ih c 0 (front ++ (slashes (2 * k) ++ quote ∷ quote ∷ [])) _ (rw e (simp (append-assoc, ← slashes-twice k, append-nil)))
     ∙ simp append-assoc
-writes-step q xs (other p r) hidden ih c k front cmd e =
+bat-writes-step q xs (other p r) percent-sign ih c k front cmd e =
     ih c 0 (front ++ (slashes k ++ units "%%cd:~,%")) _ (rw e (simp (append-assoc, append-nil))) ∙ simp append-assoc
-writes-step q xs (other {x} p r) (shown s) ih c k front cmd e =
+bat-writes-step q xs (other {x} p r) (no-percent s) ih c k front cmd e =
     let (n, c′) = apart true (isReturn x) (any isReturn xs) c in
     simp (p, r, s, n) (ih c′ 0 (front ++ (slashes k ++ x ∷ [])) (cmd ++ x ∷ []) (rw e (simp (append-assoc, append-nil))) ∙ simp append-assoc)
 
-writes : (q : Bool) (xs : List ℕ) → Writes q xs
+bat-writes : (q : Bool) (xs : List ℕ) → BatWrites q xs
 unfolding for-bat-units batchEscaped
-writes q [] = λ c k front cmd e. rw e (at-end q k front)
-writes q (x ∷ xs) = writes-step q xs (kind x) (hack x) (writes q xs)
+bat-writes q [] = λ c k front cmd e. rw e (at-end q k front)
+bat-writes q (x ∷ xs) = bat-writes-step q xs (kind x) (hack x) (bat-writes q xs)
 
-loop : (xs : List ℕ) → any isReturn xs ≡ false → (q : Bool) (cmd : List ℕ) → closed q (for-bat-units cmd 0 xs) ≡ cmd ++ batchEscaped q 0 xs
-loop xs c q cmd = writes q xs c 0 cmd cmd (rw append-nil)
+bat-units-loop : (xs : List ℕ) → any isReturn xs ≡ false → (q : Bool) (cmd : List ℕ) → closed q (for-bat-units cmd 0 xs) ≡ cmd ++ batchEscaped q 0 xs
+bat-units-loop xs c q cmd = bat-writes q xs c 0 cmd cmd (rw append-nil)
 
 -- ---- the argument
 
@@ -188,5 +188,5 @@ pub append-bat-arg-same : (force : Bool) (cmd : List ℕ) (a : Argument) → any
 unfolding append-bat-arg batchForm
 append-bat-arg-same force cmd a c =
     let arg = a .content in
-    rw (quoted force arg)
-    (ensured-says (any isNul arg) arg (appended (λ start. for-bat-units start 0 arg) (λ q. batchEscaped q 0 arg) (loop arg c) (needsBatchQuotes force arg) cmd))
+    rw (bat-quotes-same force arg)
+    (ensured-says (any isNul arg) arg (between-quotes (λ start. for-bat-units start 0 arg) (λ q. batchEscaped q 0 arg) (bat-units-loop arg c) (needsBatchQuotes force arg) cmd))

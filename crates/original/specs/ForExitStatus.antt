@@ -63,11 +63,11 @@ record Base (base : ℕ) : Type 0 where
   some-left : (n : ℕ) → base ≤ n → n / base ≡ 0 → ⊥
   falls : (n most : ℕ) → n < base * most → n / base < most
 
-ten : Base 10
-ten = record { none-left = λ n h. omega arith; is-rest = λ n h. omega arith; some-left = λ n h e. omega arith; falls = λ n most h. omega arith }
+by-ten : Base 10
+by-ten = record { none-left = λ n h. omega arith; is-rest = λ n h. omega arith; some-left = λ n h e. omega arith; falls = λ n most h. omega arith }
 
-sixteen : Base 16
-sixteen = record { none-left = λ n h. omega arith; is-rest = λ n h. omega arith; some-left = λ n h e. omega arith; falls = λ n most h. omega arith }
+by-sixteen : Base 16
+by-sixteen = record { none-left = λ n h. omega arith; is-rest = λ n h. omega arith; some-left = λ n h e. omega arith; falls = λ n most h. omega arith }
 
 module _ (base : ℕ) (b : Base base) where
   last-digit : (more n : ℕ) (found : List ℕ) → n < base → formatted base more n found ≡ glyph (n % base) ∷ found
@@ -107,10 +107,10 @@ exit-display-is status h = go (ltb status highBit) refl
     go : (b : Bool) → ltb status highBit ≡ b → exit-display status ≡ statusFront ++ pick b (digits 10 9 status) (units "0x" ++ digits 16 7 status)
     go true e =
         rw (low-bit status (ltb-true status highBit e))
-        (ap (λ text. statusFront ++ text) (same-digits 10 ten 9 31 status [] (omega arith) (omega arith) ∙ append-nil _))
+        (ap (λ text. statusFront ++ text) (same-digits 10 by-ten 9 31 status [] (omega arith) (omega arith) ∙ append-nil _))
     go false e =
         rw (high-bit status (ltb-false status highBit e) h)
-        (ap (λ text. statusFront ++ (units "0x" ++ text)) (same-digits 16 sixteen 7 31 status [] (omega arith) (omega arith) ∙ append-nil _))
+        (ap (λ text. statusFront ++ (units "0x" ++ text)) (same-digits 16 by-sixteen 7 31 status [] (omega arith) (omega arith) ∙ append-nil _))
 
 -- On the oracle's domain the Rust and the port say the same.
 pub exit-display-same : (status room : ℕ) → status < 4294967296

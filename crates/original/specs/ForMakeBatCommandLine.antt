@@ -15,7 +15,7 @@ use Rattle.rules.specs.Batch.{endsInBackslash, batchForm}
 use Rattle.rules.specs.Building.{written, tail, batchLimit, scriptOf, batchFront, batchLine, isNoScript, nulFinding, batchFinding, batchCommandLine}
 use Rattle.laws.specs.Choice.{apart}
 use Rattle.original.specs.Language.{_==Some_}
-use Rattle.original.specs.Shims.{contains, last, before, strip-suffix, unwrap-or, Result, Ok, Err, _>>=_, as-encoded-bytes}
+use Rattle.original.specs.Shims.{contains, last, put-before, strip-suffix, unwrap-or, Result, Ok, Err, _>>=_, as-encoded-bytes}
 use Rattle.original.specs.AppendArg.{Arg, Regular, Raw}
 use Rattle.original.specs.AppendBatArg.{append-bat-arg}
 use Rattle.original.specs.MakeBatCommandLine.{DISALLOWED, Append, match-arg, for-bat-args, make-bat-command-line-by, make-bat-command-line}
@@ -111,10 +111,10 @@ match-arg-says force cmd a = go (isRegular (a .kind)) refl (any isLineBreak (a .
 -- ---- the line
 
 -- the loop appends a space and a form for each argument, up to the first at fault
-loop : (force : Bool)
+bat-args-loop : (force : Bool)
     → Loop (λ cmd args. for-bat-args append-bat-arg cmd (args-of args) force) batchFinding (λ a. space ∷ written batchForm force a) (tail batchForm force)
 unfolding for-bat-args
-loop force =
+bat-args-loop force =
     record {
       call = λ cmd a. match-arg append-bat-arg (cmd ++ space ∷ []) (arg-of a) force;
       ends = λ cmd. refl;
@@ -131,7 +131,7 @@ last-same [] = refl
 last-same (x ∷ []) = refl
 last-same (x ∷ y ∷ ys) = last-same (y ∷ ys)
 
-unwrap-before : (x : ℕ) (o : Option (List ℕ)) (xs : List ℕ) → unwrap-or (before x o) (x ∷ xs) ≡ x ∷ unwrap-or o xs
+unwrap-before : (x : ℕ) (o : Option (List ℕ)) (xs : List ℕ) → unwrap-or (put-before x o) (x ∷ xs) ≡ x ∷ unwrap-or o xs
 unwrap-before x none xs = refl
 unwrap-before x (some ys) xs = refl
 
@@ -168,7 +168,7 @@ make-bat-command-line-says force script args = go (isNoScript script) refl
         rw (no-script-same script, e)
         (says-then (λ cmd. cmd ++ quote ∷ []) (for-bat-args append-bat-arg (start (unwrap-or (strip-suffix script 0) script)) (args-of args) force)
         (firstFault batchFinding args) (start (scriptOf script) ++ tail batchForm force args)
-        (rw (script-same script) (loop-says (loop force) 1 (start (scriptOf script)) args))
+        (rw (script-same script) (loop-says (bat-args-loop force) 1 (start (scriptOf script)) args))
         ∙ simp append-assoc)
 
 -- On the oracle's domain the Rust and the port say the same.

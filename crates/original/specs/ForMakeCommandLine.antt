@@ -17,9 +17,9 @@ use Rattle.original.specs.Loops.{says-then, Loop, loop-says}
 use Rattle.original.specs.ForAppendArg.{append-arg-same}
 
 -- the loop appends a space and a form for each argument, up to the first with a NUL
-loop : (force : Bool) → Loop (λ cmd args. for-args cmd (args-of args) force) nulFinding (λ a. space ∷ written form force a) (tail form force)
+args-loop : (force : Bool) → Loop (λ cmd args. for-args cmd (args-of args) force) nulFinding (λ a. space ∷ written form force a) (tail form force)
 unfolding for-args
-loop force =
+args-loop force =
     record {
       call = λ cmd a. append-arg (cmd ++ space ∷ []) (arg-of a) force;
       ends = λ cmd. refl;
@@ -35,7 +35,7 @@ pub make-command-line-says : (force : Bool) (program : List ℕ) (args : List Ar
 unfolding make-command-line line
 make-command-line-says force program args =
     says-then (λ cmd. cmd) (for-args (enclosed program) (args-of args) force) (firstFault nulFinding args) (line force program args)
-    (loop-says (loop force) 1 (enclosed program) args)
+    (loop-says (args-loop force) 1 (enclosed program) args)
 
 -- On the oracle's domain the Rust and the port say the same.
 pub make-command-line-same : (force : Bool) (program records text : List ℕ) (room : ℕ)

@@ -75,31 +75,31 @@ entryOne e = e .key ++ equals ∷ e .value ++ nul ∷ []
 
 -- `?` twice, with what follows behind both or behind the whole
 module _ (k v : List ℕ) where
-  turned : (n m : Bool) (f : List ℕ → List ℕ) (b : List ℕ) (more : List ℕ → Result (List ℕ)) → f v ≡ b
+  entry-turned : (n m : Bool) (f : List ℕ → List ℕ) (b : List ℕ) (more : List ℕ → Result (List ℕ)) → f v ≡ b
       → (pick n (Err nul-found) (Ok k) >>= λ k. pick m (Err nul-found) (Ok v) >>= λ v. more (f v))
       ≡ ((pick n (Err nul-found) (Ok k) >>= λ k. pick m (Err nul-found) (Ok v) >>= λ v. Ok b) >>= more)
-  turned true m f b more e = refl
-  turned false true f b more e = refl
-  turned false false f b more e = rw e
+  entry-turned true m f b more e = refl
+  entry-turned false true f b more e = refl
+  entry-turned false false f b more e = rw e
 
-  said : (n m : Bool) (b : List ℕ)
+  entry-said : (n m : Bool) (b : List ℕ)
       → rust-says (pick n (Err nul-found) (Ok k) >>= λ k. pick m (Err nul-found) (Ok v) >>= λ v. Ok b) ≡ finding-says (wrongIf 5 n (wrongIf 5 m sound)) b
-  said true m b = refl
-  said false true b = refl
-  said false false b = refl
+  entry-said true m b = refl
+  entry-said false true b = refl
+  entry-said false false b = refl
 
 -- the loop appends each entry, up to the first with a NUL
-loop : Loop for-env entryNulFinding entryOne entryUnits
+env-loop : Loop for-env entryNulFinding entryOne entryUnits
 unfolding for-env entryUnits
-loop =
+env-loop =
     record {
       call = λ blk e. ensure-no-nuls (e .key) >>= λ k. ensure-no-nuls (e .value) >>= λ v. Ok (blk ++ entryOne e);
       ends = λ blk. refl;
       turns = λ blk e more.
-          turned (e .key) (e .value) (any isNul (e .key)) (any isNul (e .value))
+          entry-turned (e .key) (e .value) (any isNul (e .key)) (any isNul (e .value))
           (λ v. blk ++ e .key ++ equals ∷ [] ++ v ++ nul ∷ []) (blk ++ entryOne e) (λ blk. for-env blk more)
           (simp append-assoc);
-      says = λ blk e. said (e .key) (e .value) (any isNul (e .key)) (any isNul (e .value)) (blk ++ entryOne e);
+      says = λ blk e. entry-said (e .key) (e .value) (any isNul (e .key)) (any isNul (e .value)) (blk ++ entryOne e);
       none = refl;
       next = λ e more. simp append-assoc;
     }
@@ -110,7 +110,7 @@ unfolding make-envp block faultFrom
 make-envp-says [] = refl
 make-envp-says (e ∷ env) =
     says-then (λ blk. blk ++ nul ∷ []) (for-env [] (e ∷ env)) (firstFault entryNulFinding (e ∷ env)) (entryUnits (e ∷ env))
-    (loop-says loop 1 [] (e ∷ env))
+    (loop-says env-loop 1 [] (e ∷ env))
 
 -- On the oracle's domain the Rust and the port say the same.
 pub make-envp-same : (compare : Compare) (records text : List ℕ) (room : ℕ)

@@ -64,10 +64,10 @@ and-high-bit n = n / 0x80000000 % 2 * 0x80000000
 -- ---- loops
 
 -- how a turn of a loop ends, with the locals: the next turn follows, or `break`
-pub data Turn (A : Type 0) : Type 0 where
-  Next Break : A → Turn A
+pub data ControlFlow (A : Type 0) : Type 0 where
+  Continue Break : A → ControlFlow A
 
 -- on to the next turn, or out of the loop
-abbrev pub go-on : {A B : Type 0} → Turn A → (A → B) → (A → B) → B
-go-on (Next locals) more out = more locals
+abbrev pub go-on : {A B : Type 0} → ControlFlow A → (A → B) → (A → B) → B
+go-on (Continue locals) more out = more locals
 go-on (Break locals) more out = out locals

@@ -61,15 +61,15 @@ at-end true k front = rw (append-assoc front, slashes-twice k)
 at-end false k front = refl
 
 -- the statement that opens the quotes
-abbrev pub opened : Bool → List ℕ → List ℕ
-opened q cmd = pick q (cmd ++ quote ∷ []) cmd
+abbrev pub with-opening : Bool → List ℕ → List ℕ
+with-opening q cmd = pick q (cmd ++ quote ∷ []) cmd
 
 -- the statements that close them
-abbrev pub ended : Bool → List ℕ × ℕ → List ℕ
-ended q (cmd, backslashes) = pick q (cmd ++ slashes backslashes ++ quote ∷ []) cmd
+abbrev pub with-closing : Bool → List ℕ × ℕ → List ℕ
+with-closing q (cmd, backslashes) = pick q (cmd ++ slashes backslashes ++ quote ∷ []) cmd
 
 -- a loop that appends a body, between these statements, appends the body or the body in quotes
-pub appended : (loop : List ℕ → List ℕ × ℕ) (body : Bool → List ℕ) → ((q : Bool) (cmd : List ℕ) → closed q (loop cmd) ≡ cmd ++ body q)
-    → (q : Bool) (cmd : List ℕ) → ended q (loop (opened q cmd)) ≡ cmd ++ pick q (enclosed (body true)) (body false)
-appended loop body h true cmd = rw (h true (cmd ++ quote ∷ [])) (simp append-assoc)
-appended loop body h false cmd = h false cmd
+pub between-quotes : (loop : List ℕ → List ℕ × ℕ) (body : Bool → List ℕ) → ((q : Bool) (cmd : List ℕ) → closed q (loop cmd) ≡ cmd ++ body q)
+    → (q : Bool) (cmd : List ℕ) → with-closing q (loop (with-opening q cmd)) ≡ cmd ++ pick q (enclosed (body true)) (body false)
+between-quotes loop body h true cmd = rw (h true (cmd ++ quote ∷ [])) (simp append-assoc)
+between-quotes loop body h false cmd = h false cmd

@@ -24,11 +24,11 @@ use Rattle.original.specs.MakeBatCommandLine.{Append, make-bat-command-l
 use Rattle.original.specs.ParseLpCmdLine.{while-w, parse-lp-cmd-line}
 use Rattle.original.specs.MakeEnvp.{cmp, make-envp}
 use Rattle.original.specs.ExitStatus.{exit-code, exit-display}
-use Rattle.original.specs.Domain.{Told, gives, refuses, rust-says, port-says, finding-says, in-domain, args-of}
+use Rattle.original.specs.Domain.{Verdict, gives, refuses, rust-says, port-says, finding-says, in-domain, args-of}
 
 -- what the Rust says, and what the port says
 abbrev pub Sides : Type 0 → Type 0
-Sides A = Told A × Told A
+Sides A = Verdict A × Verdict A
 
 -- ---- inside: a result, 5, 6 and 7 are in the domain, 1 to 4 are not
 

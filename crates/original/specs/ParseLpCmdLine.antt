@@ -5,7 +5,7 @@ use mathlib.Core.Bool.{Bool, true, false}
 use mathlib.Core.List.{List, [], _∷_}
 use mathlib.Core.Option.{Option, none, some}
 use lib.ListN.{length}
-use Rattle.original.specs.Language.{if_then_else_, _==_, _==Some_, _&&_, _||_, !_, u16, Turn, Next, Break, go-on}
+use Rattle.original.specs.Language.{if_then_else_, _==_, _==Some_, _&&_, _||_, !_, u16, ControlFlow, Continue, Break, go-on}
 use Rattle.original.specs.Shims.{is-none, and-then, unwrap, non-zero, push, extend, times, is-empty, from-wide, peek, next, advance-while}
 
 -- `BACKSLASH`
@@ -27,15 +27,15 @@ SPACE = unwrap 0 (non-zero (u16 " "))  -- args 61
 -- ---- the name of the executable
 
 -- the `match` on one unit of it
-abbrev pub match-w0 : List ℕ → Bool → ℕ → Turn (List ℕ × Bool)
+abbrev pub match-w0 : List ℕ → Bool → ℕ → ControlFlow (List ℕ × Bool)
 match-w0 cur in-quotes w =
     if w == QUOTE then (do  -- args 79
       let in-quotes = ! in-quotes
-      Next (cur, in-quotes))
+      Continue (cur, in-quotes))
     else if (w == SPACE || w == TAB) && ! in-quotes then Break (cur, in-quotes)  -- args 81
     else (do  -- args 83
       let cur = push cur w
-      Next (cur, in-quotes))
+      Continue (cur, in-quotes))
 
 -- the loop over the name's units
 unfoldable pub for-w : List ℕ → Bool → List ℕ → List ℕ × Bool × List ℕ
@@ -50,26 +50,26 @@ abbrev pub Locals : Type 0
 Locals = List (List ℕ) × List ℕ × Bool × List ℕ
 
 -- the `match` on what `peek` gives
-abbrev pub match-peek : List (List ℕ) → List ℕ → Bool → List ℕ → Option ℕ → Turn Locals
+abbrev pub match-peek : List (List ℕ) → List ℕ → Bool → List ℕ → Option ℕ → ControlFlow Locals
 match-peek ret-val cur in-quotes code-units (some w) =
     if w == QUOTE then (do  -- args 133
       let cur = push cur QUOTE  -- args 134
       let code-units = next code-units  -- args 135
-      Next (ret-val, cur, in-quotes, code-units))
+      Continue (ret-val, cur, in-quotes, code-units))
     else (do  -- args 138
       let in-quotes = false
-      Next (ret-val, cur, in-quotes, code-units))
+      Continue (ret-val, cur, in-quotes, code-units))
 match-peek ret-val cur in-quotes code-units none = Break (ret-val, cur, in-quotes, code-units)  -- args 141
 
 -- the `match` on one unit of them
-unfoldable pub match-w : List (List ℕ) → List ℕ → Bool → ℕ → List ℕ → Turn Locals
+unfoldable pub match-w : List (List ℕ) → List ℕ → Bool → ℕ → List ℕ → ControlFlow Locals
 unfolding advance-while
 match-w ret-val cur in-quotes w code-units =
     if (w == SPACE || w == TAB) && ! in-quotes then (do  -- args 107
       let ret-val = push ret-val (from-wide cur)  -- args 108
       let cur : List ℕ = []  -- args 109
       let (_, code-units) = advance-while (λ w. w == SPACE || w == TAB) code-units  -- args 112
-      Next (ret-val, cur, in-quotes, code-units))
+      Continue (ret-val, cur, in-quotes, code-units))
     else if w == BACKSLASH then (do  -- args 115
       let (count, code-units) = advance-while (λ w. w == BACKSLASH) code-units  -- args 116
       let backslash-count = count + 1  -- args 116
@@ -86,14 +86,14 @@ match-w ret-val cur in-quotes w code-units =
           else (do  -- args 124
             let cur = extend cur (times backslash-count BACKSLASH)  -- args 126
             (cur, code-units))
-      Next (ret-val, cur, in-quotes, code-units))
+      Continue (ret-val, cur, in-quotes, code-units))
     else if w == QUOTE && in-quotes then match-peek ret-val cur in-quotes code-units (peek code-units)  -- args 131
     else if w == QUOTE then (do  -- args 144
       let in-quotes = true
-      Next (ret-val, cur, in-quotes, code-units))
+      Continue (ret-val, cur, in-quotes, code-units))
     else (do  -- args 146
       let cur = push cur w
-      Next (ret-val, cur, in-quotes, code-units))
+      Continue (ret-val, cur, in-quotes, code-units))
 
 -- the loop over the arguments' units, for at most so many turns. As many as there are units are enough: `while-same` in ForParseLpCmdLine.
 unfoldable pub while-w : ℕ → List (List ℕ) → List ℕ → Bool → List ℕ → Locals

@@ -49,8 +49,8 @@ controls = refl
 -- ---- the map
 
 -- an entry of a key and a value
-abbrev entry : List ℕ → List ℕ → Entry
-entry k v = record { key = k; value = v }
+abbrev key-and-value : List ℕ → List ℕ → Entry
+key-and-value k v = record { key = k; value = v }
 
 -- keys are compared with their case folded, unit by unit: `a` and `A`, `_` and `a`, `b` and `C`, a key and its beginning
 pub orders :
@@ -65,7 +65,7 @@ orders = refl
 
 -- equal keys under an order that ignores case, `a` = 1 and then `A` = 2: the map keeps the first key and the last value
 pub first-key-last-value :
-    btree-map (cmp upper) (entry (units "a") (units "1") ∷ entry (units "A") (units "2") ∷ []) ≡ entry (units "a") (units "2") ∷ []
+    btree-map (cmp upper) (key-and-value (units "a") (units "1") ∷ key-and-value (units "A") (units "2") ∷ []) ≡ key-and-value (units "a") (units "2") ∷ []
 unfolding btree-map cmp units
 first-key-last-value = refl
 

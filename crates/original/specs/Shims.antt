@@ -98,15 +98,15 @@ abbrev pub get-from : List ℕ → ℕ → Option (List ℕ)
 get-from xs i = if leb i (length xs) then some (drop i xs) else none
 
 -- a unit before what an option holds
-abbrev pub before : ℕ → Option (List ℕ) → Option (List ℕ)
-before x none = none
-before x (some xs) = some (x ∷ xs)
+abbrev pub put-before : ℕ → Option (List ℕ) → Option (List ℕ)
+put-before x none = none
+put-before x (some xs) = some (x ∷ xs)
 
 -- `strip_suffix(&[s])`
 abbrev pub strip-suffix : List ℕ → ℕ → Option (List ℕ)
 strip-suffix [] s = none
 strip-suffix (x ∷ []) s = if x == s then some [] else none
-strip-suffix (x ∷ y ∷ ys) s = before x (strip-suffix (y ∷ ys) s)
+strip-suffix (x ∷ y ∷ ys) s = put-before x (strip-suffix (y ∷ ys) s)
 
 -- ---- characters, and texts in quotes
 
@@ -171,14 +171,14 @@ encoded cp =
     else (0xf0 + cp / 262144) ∷ (0x80 + cp / 4096 % 64) ∷ (0x80 + cp / 64 % 64) ∷ (0x80 + cp % 64) ∷ []
 
 -- the bytes of code points
-unfoldable pub bytes : List ℕ → List ℕ
-bytes [] = []
-bytes (cp ∷ cps) = encoded cp ++ bytes cps
+unfoldable pub encoded-all : List ℕ → List ℕ
+encoded-all [] = []
+encoded-all (cp ∷ cps) = encoded cp ++ encoded-all cps
 
 -- `as_encoded_bytes`
 unfoldable pub as-encoded-bytes : List ℕ → List ℕ
-unfolding code-points bytes
-as-encoded-bytes arg = bytes (code-points arg)
+unfolding code-points encoded-all
+as-encoded-bytes arg = encoded-all (code-points arg)
 
 -- ---- numbers
 

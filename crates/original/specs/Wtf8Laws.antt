@@ -10,7 +10,7 @@ use Rattle.rules.specs.Choice.{pick, either, both, any, isEmpty}
 use Rattle.rules.specs.Batch.{endsInBackslash}
 use Rattle.laws.specs.Choice.{both-true}
 use Rattle.original.specs.Language.{_==Some_}
-use Rattle.original.specs.Shims.{last, is-high, is-low, pair, code-points, encoded, bytes, as-encoded-bytes}
+use Rattle.original.specs.Shims.{last, is-high, is-low, pair, code-points, encoded, encoded-all, as-encoded-bytes}
 use Rattle.original.specs.Laws.{within-least}
 
 -- ---- a test on bytes that holds of none from 128 up
@@ -32,12 +32,12 @@ module _ (p : ℕ → Bool) (high : (b : ℕ) → 128 ≤ b → p b ≡ false) w
           (rw (high (0x80 + cp / 64 % 64) (omega arith), high (0x80 + cp % 64) (omega arith)))
 
   -- a pair, or the first unit alone
-  split-any : (x y : ℕ) (ys : List ℕ) → any p (bytes (code-points ys)) ≡ any p ys → any p (bytes (code-points (y ∷ ys))) ≡ any p (y ∷ ys)
-      → any p (bytes (code-points (x ∷ y ∷ ys))) ≡ any p (x ∷ y ∷ ys)
-  unfolding code-points bytes
+  split-any : (x y : ℕ) (ys : List ℕ) → any p (encoded-all (code-points ys)) ≡ any p ys → any p (encoded-all (code-points (y ∷ ys))) ≡ any p (y ∷ ys)
+      → any p (encoded-all (code-points (x ∷ y ∷ ys))) ≡ any p (x ∷ y ∷ ys)
+  unfolding code-points encoded-all
   split-any x y ys ih ih′ = go (both (is-high x) (is-low y)) refl
     where
-      go : (b : Bool) → both (is-high x) (is-low y) ≡ b → any p (bytes (code-points (x ∷ y ∷ ys))) ≡ any p (x ∷ y ∷ ys)
+      go : (b : Bool) → both (is-high x) (is-low y) ≡ b → any p (encoded-all (code-points (x ∷ y ∷ ys))) ≡ any p (x ∷ y ∷ ys)
       go true e =
           let (h, l) = both-true (is-high x) (is-low y) e in
           let hx : 128 ≤ x = omega (arith, within-least 0xd800 0xdbff x h) in
@@ -56,28 +56,28 @@ module _ (p : ℕ → Bool) (high : (b : ℕ) → 128 ≤ b → p b ≡ false) w
 
 -- The bytes of a code point with others behind: there is one.
 -- The last byte is a backslash where the code point is one and none are behind, or the last of those behind is.
-record Behind (cp : ℕ) (rest : List ℕ) (whole : List ℕ) : Type 0 where
+record Followed (cp : ℕ) (rest : List ℕ) (whole : List ℕ) : Type 0 where
   some-byte : isEmpty whole ≡ false
   last-byte : last whole ==Some 92 ≡ pick (isEmpty rest) (eqb cp 92) (last rest ==Some 92)
 
 no-backslash : (x : ℕ) → 128 ≤ x → eqb x 92 ≡ false
 no-backslash x h = ne-eqb x 92 (λ e. omega arith)
 
-one-behind : (cp b : ℕ) (rest : List ℕ) → eqb b 92 ≡ eqb cp 92 → Behind cp rest (b ∷ rest)
+one-behind : (cp b : ℕ) (rest : List ℕ) → eqb b 92 ≡ eqb cp 92 → Followed cp rest (b ∷ rest)
 one-behind cp b [] e = record { some-byte = refl; last-byte = e }
 one-behind cp b (x ∷ xs) e = record { some-byte = refl; last-byte = refl }
 
-more-behind : (cp a : ℕ) (rest whole : List ℕ) → Behind cp rest whole → Behind cp rest (a ∷ whole)
+more-behind : (cp a : ℕ) (rest whole : List ℕ) → Followed cp rest whole → Followed cp rest (a ∷ whole)
 more-behind cp a rest [] h = record { some-byte = refl; last-byte = let z : true ≡ false = h .some-byte in cc }
 more-behind cp a rest (x ∷ xs) h = record { some-byte = refl; last-byte = h .last-byte }
 
-encoded-behind : (cp : ℕ) (rest : List ℕ) → Behind cp rest (encoded cp ++ rest)
+encoded-behind : (cp : ℕ) (rest : List ℕ) → Followed cp rest (encoded cp ++ rest)
 encoded-behind cp rest = go (ltb cp 0x80) (ltb cp 0x800) (ltb cp 0x10000) refl refl refl
   where
-    tail : 128 ≤ cp → Behind cp rest ((0x80 + cp % 64) ∷ rest)
+    tail : 128 ≤ cp → Followed cp rest ((0x80 + cp % 64) ∷ rest)
     tail h = one-behind cp (0x80 + cp % 64) rest (rw (no-backslash cp h, no-backslash (0x80 + cp % 64) (omega arith)))
 
-    go : (a b c : Bool) → ltb cp 0x80 ≡ a → ltb cp 0x800 ≡ b → ltb cp 0x10000 ≡ c → Behind cp rest (encoded cp ++ rest)
+    go : (a b c : Bool) → ltb cp 0x80 ≡ a → ltb cp 0x800 ≡ b → ltb cp 0x10000 ≡ c → Followed cp rest (encoded cp ++ rest)
     go true b c ea eb ec = rw ea (one-behind cp cp rest refl)
     go false true c ea eb ec =
         rw (ea, eb) (more-behind cp _ rest _ (tail (ltb-false cp 128 ea)))
@@ -94,29 +94,29 @@ empty-bytes (x ∷ []) = encoded-behind x [] .some-byte
 empty-bytes (x ∷ y ∷ ys) = go (both (is-high x) (is-low y)) refl
   where
     go : (b : Bool) → both (is-high x) (is-low y) ≡ b → isEmpty (as-encoded-bytes (x ∷ y ∷ ys)) ≡ false
-    go true e = rw e (encoded-behind (pair x y) (bytes (code-points ys)) .some-byte)
-    go false e = rw e (encoded-behind x (bytes (code-points (y ∷ ys))) .some-byte)
+    go true e = rw e (encoded-behind (pair x y) (encoded-all (code-points ys)) .some-byte)
+    go false e = rw e (encoded-behind x (encoded-all (code-points (y ∷ ys))) .some-byte)
 
-Ends : List ℕ → Type 0
-Ends xs = last (as-encoded-bytes xs) ==Some 92 ≡ endsInBackslash xs
+EndsSame : List ℕ → Type 0
+EndsSame xs = last (as-encoded-bytes xs) ==Some 92 ≡ endsInBackslash xs
 
-split-last : (x y : ℕ) (ys : List ℕ) → Ends ys → Ends (y ∷ ys) → Ends (x ∷ y ∷ ys)
-unfolding Ends as-encoded-bytes endsInBackslash
+split-last : (x y : ℕ) (ys : List ℕ) → EndsSame ys → EndsSame (y ∷ ys) → EndsSame (x ∷ y ∷ ys)
+unfolding EndsSame as-encoded-bytes endsInBackslash
 split-last x y ys ih ih′ = go (both (is-high x) (is-low y)) refl
   where
-    paired : (zs : List ℕ) → 128 ≤ y → Ends zs → last (encoded (pair x y) ++ bytes (code-points zs)) ==Some 92 ≡ endsInBackslash (y ∷ zs)
+    paired : (zs : List ℕ) → 128 ≤ y → EndsSame zs → last (encoded (pair x y) ++ encoded-all (code-points zs)) ==Some 92 ≡ endsInBackslash (y ∷ zs)
     paired [] h e = encoded-behind (pair x y) [] .last-byte ∙ rw (no-backslash y h, no-backslash (pair x y) (omega arith))
-    paired (z ∷ zs) h e = rw (encoded-behind (pair x y) (bytes (code-points (z ∷ zs))) .last-byte, empty-bytes (z ∷ zs)) e
+    paired (z ∷ zs) h e = rw (encoded-behind (pair x y) (encoded-all (code-points (z ∷ zs))) .last-byte, empty-bytes (z ∷ zs)) e
 
-    go : (b : Bool) → both (is-high x) (is-low y) ≡ b → Ends (x ∷ y ∷ ys)
+    go : (b : Bool) → both (is-high x) (is-low y) ≡ b → EndsSame (x ∷ y ∷ ys)
     go true e =
         let (h, l) = both-true (is-high x) (is-low y) e in
         rw e (paired ys (omega (arith, within-least 0xdc00 0xdfff y l)) ih)
-    go false e = rw (e, encoded-behind x (bytes (code-points (y ∷ ys))) .last-byte, empty-bytes (y ∷ ys)) ih′
+    go false e = rw (e, encoded-behind x (encoded-all (code-points (y ∷ ys))) .last-byte, empty-bytes (y ∷ ys)) ih′
 
 -- the last byte is a backslash where the last unit is
 pub last-bytes : (xs : List ℕ) → last (as-encoded-bytes xs) ==Some 92 ≡ endsInBackslash xs
-unfolding Ends as-encoded-bytes endsInBackslash
+unfolding EndsSame as-encoded-bytes endsInBackslash
 last-bytes [] = refl
 last-bytes (x ∷ []) = encoded-behind x [] .last-byte
 last-bytes (x ∷ y ∷ ys) = split-last x y ys (last-bytes ys) (last-bytes (y ∷ ys))
