@@ -1,5 +1,6 @@
-//! The binding against the archive: lists go through a line and back, and every refusal that can arise is named.
+//! The binding against the archive: lists go through a line and back, room is enough at every bound, and every refusal that can arise is named.
 use aslapush::{class_of, code, has_bat_extension, parse, status_text, wide, CommandLine, EnvironmentBlock, Refusal};
+use aslapush::{BATCH_UNITS, BLOCK_UNITS, LINE_UNITS, READ_UNITS};
 
 /// A small generator of numbers, so that the tests need nothing else.
 struct Numbers(u64);
@@ -26,6 +27,56 @@ fn regular_arguments_come_back() {
     }
 }
 
+/// A line of so many arguments, each so many times one unit, forced.
+fn repeated(program: &[u16], unit: u16, sizes: &[usize]) -> CommandLine {
+    sizes.iter().fold(CommandLine::new(program), |line, n| line.arg(&vec![unit; *n])).force_quotes(true)
+}
+
+#[test]
+fn a_line_that_meets_the_bound_has_just_the_room() {
+    for sizes in [&[][..], &[0], &[1], &[4], &[0, 0, 0], &[3, 0, 7, 1], &[3_000, 900]] {
+        let (units, count) = (sizes.iter().sum::<usize>(), sizes.len());
+        let line = repeated(&wide("exe"), 34, sizes).build().unwrap();
+        assert_eq!(line.len(), 3 + 2 + 2 * units + 3 * count, "quotes {sizes:?}");
+        let batch = repeated(&wide("a.bat"), 37, sizes).build_batch().unwrap();
+        assert_eq!(batch.len(), 5 + 31 + 8 * units + 3 * count, "percents {sizes:?}");
+    }
+}
+
+#[test]
+fn reading_has_room_for_as_many_arguments_as_there_can_be() {
+    for n in [0, 1, 2, 3, 500, READ_UNITS / 2] {
+        let line: Vec<u16> = wide(" a").into_iter().cycle().take(2 * n).collect();
+        let args = parse(&line, &[]).unwrap();
+        assert_eq!(args.len(), n + 1, "{n} times a space and a letter");
+        assert_eq!(parse(&[&line[..], &[32]].concat(), &[]).unwrap().len(), n + 1, "and a space more");
+    }
+    let name = vec![97; READ_UNITS];
+    assert_eq!(parse(&[0, 97, 98], &name).unwrap(), [name], "a line that is empty up to its NUL");
+}
+
+#[test]
+fn limits_are_met_and_no_unit_more() {
+    let line = |n: usize| CommandLine::new(&vec![97; n - 2]).build();
+    assert_eq!(line(LINE_UNITS).unwrap().len(), LINE_UNITS);
+    assert_eq!(line(LINE_UNITS + 1), Err(Refusal::Length));
+    let batch = |n: usize| CommandLine::new(&vec![97; n - 31]).build_batch();
+    assert_eq!(batch(BATCH_UNITS).unwrap().len(), BATCH_UNITS);
+    assert_eq!(batch(BATCH_UNITS + 1), Err(Refusal::Length));
+    assert_eq!(parse(&vec![97; READ_UNITS], &[]).unwrap().len(), 1);
+    assert_eq!(parse(&vec![97; READ_UNITS + 1], &[]), Err(Refusal::Length));
+    assert_eq!(parse(&[], &vec![97; READ_UNITS + 1]), Err(Refusal::Length));
+    let block = |n: usize| EnvironmentBlock::new().entry(&vec![97; n - 3], &[]).build();
+    assert_eq!(block(BLOCK_UNITS).unwrap().len(), BLOCK_UNITS);
+    assert_eq!(block(BLOCK_UNITS + 1), Err(Refusal::Length));
+    // Far past the limit the room stays at the limit, and an earlier refusal is still given first.
+    let long = vec![97; 3_000_000];
+    assert_eq!(CommandLine::new(&wide("p")).arg(&long).build(), Err(Refusal::Length));
+    assert_eq!(CommandLine::new(&wide("p")).arg(&long).arg(&[0]).build_batch(), Err(Refusal::Nul { place: 2 }));
+    let line = CommandLine::new(&wide("p")).arg(&vec![97; 30_000]).build_batch().unwrap();
+    assert!(line.capacity() < 2 * LINE_UNITS, "capacity {}", line.capacity());
+}
+
 #[test]
 fn refusals_are_named() {
     let line = |program: &str, args: &[&str]| args.iter().fold(CommandLine::new(&wide(program)), |l, a| l.arg(&wide(a)));
@@ -33,12 +84,11 @@ fn refusals_are_named() {
     assert_eq!(line("p", &["a", "b\0"]).build(), Err(Refusal::Nul { place: 2 }));
     assert_eq!(line("p", &["a", "b\r"]).build_batch(), Err(Refusal::LineBreak { place: 2 }));
     assert_eq!(line("p\"", &[]).build_batch(), Err(Refusal::Script));
-    assert_eq!(CommandLine::new(&[97; 32_766]).build(), Err(Refusal::Length));
-    assert_eq!(CommandLine::new(&[97; 32_765]).build().unwrap().len(), 32_767);
-    assert_eq!(parse(&[97; 32_768], &[]), Err(Refusal::Length));
-    assert_eq!(parse(&[97; 32_767], &[]).unwrap().len(), 1);
-    assert_eq!(EnvironmentBlock::new().entry(&[97; 65_533], &[]).build(), Err(Refusal::Length));
-    assert_eq!(EnvironmentBlock::new().entry(&wide("A"), &[0]).build(), Err(Refusal::Nul { place: 1 }));
+    assert_eq!(line("p\\", &[]).build_batch(), Err(Refusal::Script));
+    assert_eq!(line("p\\\0", &[]).build_batch().unwrap(), wide(r#"cmd.exe /e:ON /v:OFF /d /c ""p\"""#), "7 looks at the last unit as lent");
+    assert_eq!(EnvironmentBlock::new().entry(&wide("A"), &wide("1")).entry(&wide("B"), &[0]).build(), Err(Refusal::Nul { place: 2 }));
+    assert_eq!([Refusal::Nul { place: 2 }.number(), Refusal::Length.number()], [5, 2]);
+    assert_eq!([Refusal::Nul { place: 2 }.place(), Refusal::Length.place()], [2, 0]);
     assert_eq!(Refusal::Nul { place: 2 }.to_string(), "item 2 contains a NUL: remove it");
 }
 
