@@ -1,26 +1,30 @@
 /* aslapush.h: launch lines for Windows processes, written and read in UTF-16 units, proved.
  *
- * Link target/staticlib/libaslapush.a (`rt staticlib aslapush`), x86-64.
+ * Link target/staticlib/libaslapush.a (`rt staticlib aslapush`), x86-64. It needs `memcpy` at link time, and nothing else.
  *
- * Units are UTF-16 code units; unpaired surrogates are ordinary units. Nothing is allocated and nothing is kept: every text, table and output is
- * lent by the caller as a pointer and a number of elements. A pointer is never NULL, also where its length is 0, and an output overlaps nothing else
- * that is lent to the same call. That is all a caller owes: any content may be lent.
+ * What is lent
+ *     Units are UTF-16 code units; unpaired surrogates are ordinary units. Nothing is allocated and nothing is kept: every text, table and output is lent
+ *     by the caller as a pointer and a number of elements. A pointer is never NULL, also where its number is 0, and what is written (an output, a span
+ *     table, an answer) overlaps nothing else that is handed to the same call. That is all a caller owes: any content may be lent, and an output need not
+ *     be cleared.
  *
- * Functions that can refuse return the refusal's number, 0 for an answer, and fill answer[4]:
- *     answer[0]  the refusal's place: the index of the record at fault plus 1, else 0
- *     answer[1]  the number of arguments read (reading only)
- *     answer[2]  the number of units written
- *     answer[3]  0
- * On a refusal answer[1] and answer[2] are 0 and nothing else that was lent changes. On success the result fills the front of the output (and of the
- * span table), and everything behind it keeps its content.
+ * What is answered
+ *     A function that can refuse returns 0 for an answer, else the refusal's number. Every call fills answer[4], which is how it answers and no part of
+ *     what is lent:
+ *         answer[0]  the refusal's place: the index of the record at fault plus 1, else 0
+ *         answer[1]  the number of arguments read (reading only)
+ *         answer[2]  the number of units written
+ *         answer[3]  0
+ *     A refusal changes nothing that was lent, and its answer[1] and answer[2] are 0. On success the result fills the front of the output (and of the span
+ *     table), and everything behind it keeps its content.
  *
- *     1  ASLAPUSH_RECORD      a record's kind is not 0 or 1, its part reaches past the text, or the list ends inside a record
- *     2  ASLAPUSH_LENGTH      over 32,767 units to read or in a built line, over 65,535 in a block
- *     3  ASLAPUSH_SPANS       the span table has fewer places than there are arguments
- *     4  ASLAPUSH_ROOM        the output has fewer units than the whole result
- *     5  ASLAPUSH_NUL         a NUL in a program, script, argument, key or value
- *     6  ASLAPUSH_LINE_BREAK  CR or LF in a regular argument of a batch line
- *     7  ASLAPUSH_SCRIPT      a script contains a quote mark or ends with a backslash
+ * On Windows (found by running the library under Wine, and from C#)
+ *     No terminating NUL is written, and CreateProcessW wants one: lend one unit less than there is, and store 0 at out[answer[2]].
+ *     Of a line of ASLAPUSH_LINE_UNITS units and a NUL, CreateProcessW cut off the last unit in a trial. So lend at most ASLAPUSH_LINE_UNITS - 1 units for
+ *     a line that goes there: that longest one is then refused by ASLAPUSH_ROOM.
+ *     An empty array, vector or span of C# or C++ may have a null pointer, which this interface does not take: lend the address of any element instead, with
+ *     the number 0.
+ *     Two lists of entries can give one block, as key `a` with value `b=c` and key `a=b` with value `c`: `=` in a key is written as it is.
  */
 #ifndef ASLAPUSH_H
 #define ASLAPUSH_H
@@ -32,36 +36,52 @@
 extern "C" {
 #endif
 
+/* Refusals: the table "Refusals" of README.md says when each is given, and this list follows it. */
 enum {
-    ASLAPUSH_RECORD = 1,
-    ASLAPUSH_LENGTH = 2,
-    ASLAPUSH_SPANS = 3,
-    ASLAPUSH_ROOM = 4,
-    ASLAPUSH_NUL = 5,
-    ASLAPUSH_LINE_BREAK = 6,
-    ASLAPUSH_SCRIPT = 7
+    ASLAPUSH_RECORD = 1,     /* a record's kind is none, its part reaches past the text, or the list ends inside a record */
+    ASLAPUSH_LENGTH = 2,     /* more units to read or in the whole result than the limit below */
+    ASLAPUSH_PLACES = 3,     /* fewer places are lent than are needed: a span table has one for each argument */
+    ASLAPUSH_ROOM = 4,       /* fewer units are lent than the whole result has */
+    ASLAPUSH_NUL = 5,        /* a NUL in a program, script, argument, key or value */
+    ASLAPUSH_LINE_BREAK = 6, /* CR or LF in a regular argument of a batch line */
+    ASLAPUSH_SCRIPT = 7      /* a script contains a quote mark, or its last unit as lent is a backslash */
 };
 
 /* Kinds of argument records. */
 enum { ASLAPUSH_REGULAR = 0, ASLAPUSH_RAW = 1 };
 
-/* Room that is always enough: units of a line or of a line's texts, numbers of a span table, units of a block, units of a status text. */
-enum { ASLAPUSH_LINE_UNITS = 32767, ASLAPUSH_SPAN_NUMBERS = 32768, ASLAPUSH_BLOCK_UNITS = 65535, ASLAPUSH_STATUS_UNITS = 21 };
+/* Limits: the most units of each. What has more is refused by ASLAPUSH_LENGTH, however much is lent, so room for the limit is always enough. */
+enum {
+    ASLAPUSH_READ_UNITS = 32767,                /* a line to be read up to its first NUL or its end, or where that is empty the executable name */
+    ASLAPUSH_LINE_UNITS = 32767,                /* an ordinary line that is built */
+    ASLAPUSH_BATCH_UNITS = ASLAPUSH_LINE_UNITS, /* a batch line that is built */
+    ASLAPUSH_BLOCK_UNITS = 65535                /* an environment block */
+};
 
-/* Reads a line by the C run-time rules. The line is the lent units up to the first NUL or the end; an empty line has one argument, the executable name
- * as it is. The texts lie one after another from the front of `text`; `spans` gets start and length of each.
+/* What else is always enough: numbers of a span table (theorem always-enough of docs/PROMISES.md) and units of a status text (status-bound). */
+enum { ASLAPUSH_SPAN_NUMBERS = ASLAPUSH_READ_UNITS + 1, ASLAPUSH_STATUS_UNITS = 21 };
+
+/* Room that is enough for what is at hand, by theorems of docs/PROMISES.md.
+ *     an ordinary line      program_len + 2, and for each argument of n units 2n + 3 (form-bound, and the space in front of it)
+ *     a batch line          script_len + 31 (batch-line-length), and for each argument of n units 8n + 3 (batch-form-bound, and the space)
+ *     reading n units       n units of text (text-bound) and n / 2 + 1 places, each of two numbers (count-bound); where the line is empty, n is the
+ *                           executable name's units. With n + 2 numbers nothing need be measured first, which is faster
+ *     a block               exactly key_len + value_len + 2 for each entry, and 1; without entries 2 */
+
+/* Reads a line by the C run-time rules. The line is the lent units up to the first NUL or the end; an empty line has one argument, the executable name as
+ * it is. The texts lie one after another from the front of `text`; `spans` gets start and length of each, and an odd last number in it is no place.
  * Refuses 2, 3, 4, in this order.
  *     exe "a b" c      gives 3 arguments, 7 units: texts `exea bc`, spans 0 3 3 3 6 1 */
 uint32_t aslapush_parse_lp_cmd_line(const uint16_t *units, size_t units_len, const uint16_t *exe_name, size_t exe_name_len, uint16_t *text,
                                     size_t text_len, uint32_t *spans, size_t spans_len, uint64_t answer[4]);
 
-/* Start and length of argument `index` in `text`, by the span table: part[0] and part[1]. Both are 0 for an index not in the table or a span reaching
- * past the text. Never refuses.
+/* Start and length of argument `index` in `text`, by the span table: part[0] and part[1]. Both are 0 for an index not in the table or a span reaching past
+ * the text. Never refuses.
  *     after the reading above, index 1 gives 3 and 3 */
 void aslapush_argument(const uint16_t *text, size_t text_len, const uint32_t *spans, size_t spans_len, size_t index, uint64_t part[2]);
 
-/* Builds an ordinary line: quote, program, quote, then one space and its form for each argument. `records` holds three numbers an argument: kind, start
- * and length in `text`; parts may overlap. Any `force_quotes` but 0 puts every regular argument in quotes.
+/* Builds an ordinary line: quote, program, quote, then one space and its form for each argument. `records` holds three numbers an argument: kind, start and
+ * length in `text`; parts may overlap. Any `force_quotes` but 0 puts every regular argument in quotes.
  * Refuses 1 over all records; 5 for the program; 5 argument by argument; 2; 4.
  *     program exe, records 0 0 3  0 3 0, text `a b`      gives "exe" "a b" "" */
 uint32_t aslapush_make_command_line(const uint16_t *program, size_t program_len, const uint32_t *records, size_t records_len, const uint16_t *text,

@@ -1,9 +1,13 @@
-/* Checks include/aslapush.h against the archive: every example that the header gives, and a refusal of each function that has one. */
+/* Checks include/aslapush.h against the archive: every example that the header gives, every refusal, room at its bounds, and each limit. */
 #include "aslapush.h"
 #include <stdio.h>
 #include <string.h>
 
 static int failed, passed;
+
+/* What is lent. A builder is lent `out` up to a number of units, and whatever is behind must keep its content. */
+static uint16_t name[ASLAPUSH_LINE_UNITS], text[64], out[ASLAPUSH_BLOCK_UNITS + 1], kept[ASLAPUSH_BLOCK_UNITS + 1];
+static uint64_t a[4];
 
 static void expect(int holds, const char *what) {
     if (holds) {
@@ -15,81 +19,164 @@ static void expect(int holds, const char *what) {
 }
 
 /* The units of an ASCII text. */
-static size_t units(const char *text, uint16_t *out) {
-    size_t n = strlen(text);
+static size_t units(const char *ascii, uint16_t *to) {
+    size_t n = strlen(ascii);
     for (size_t i = 0; i < n; i++)
-        out[i] = (unsigned char)text[i];
+        to[i] = (unsigned char)ascii[i];
+    return n;
+}
+
+/* One unit so many times. */
+static size_t repeated(uint16_t unit, size_t n, uint16_t *to) {
+    for (size_t i = 0; i < n; i++)
+        to[i] = unit;
     return n;
 }
 
 /* Units are those of an ASCII text. */
-static int same(const uint16_t *units, size_t len, const char *text) {
-    if (len != strlen(text))
+static int same(const uint16_t *from, size_t len, const char *ascii) {
+    if (len != strlen(ascii))
         return 0;
     for (size_t i = 0; i < len; i++)
-        if (units[i] != (unsigned char)text[i])
+        if (from[i] != (unsigned char)ascii[i])
             return 0;
     return 1;
 }
 
-/* The four numbers of an answer. */
-static int told(const uint64_t a[4], uint64_t place, uint64_t arguments, uint64_t count) {
-    return a[0] == place && a[1] == arguments && a[2] == count && a[3] == 0;
+/* The output before a call: what no result has, so that every change is seen. */
+static void ready(void) {
+    memset(a, 0xee, sizeof a);
+    memset(out, 0xdd, sizeof out);
+    memcpy(kept, out, sizeof out);
+}
+
+/* The four numbers of an answer, and nothing changed behind the units written: after a refusal nothing at all. */
+static int told(uint64_t place, uint64_t arguments, uint64_t count) {
+    int said = a[0] == place && a[1] == arguments && a[2] == count && a[3] == 0;
+    return said && memcmp(out + count, kept + count, sizeof out - 2 * count) == 0;
+}
+
+static uint32_t line(size_t program_len, const uint32_t *records, size_t numbers, size_t text_len, uint32_t force, size_t room) {
+    ready();
+    return aslapush_make_command_line(name, program_len, records, numbers, text, text_len, force, out, room, a);
+}
+
+static uint32_t batch(size_t script_len, const uint32_t *records, size_t numbers, size_t text_len, uint32_t force, size_t room) {
+    ready();
+    return aslapush_make_bat_command_line(name, script_len, records, numbers, text, text_len, force, out, room, a);
+}
+
+static uint32_t block(const uint32_t *records, size_t numbers, size_t text_len, size_t room) {
+    ready();
+    return aslapush_make_envp(records, numbers, text, text_len, out, room, a);
+}
+
+static uint32_t status(uint32_t recorded, size_t room) {
+    ready();
+    return aslapush_status_text(recorded, out, room, a);
+}
+
+static void reading(void) {
+    uint32_t spans[8], table[8] = {0, 3, 3, 3, 6, 1, 0xffffffff, 0xffffffff}, before[8];
+    uint64_t part[2];
+    size_t n = units("exe \"a b\" c", text);
+    memset(spans, 0xff, sizeof spans);
+    memcpy(before, spans, sizeof spans);
+    ready();
+    expect(aslapush_parse_lp_cmd_line(text, n, name, 0, out, 64, spans, 5, a) == ASLAPUSH_PLACES && told(0, 0, 0), "too few places");
+    expect(aslapush_parse_lp_cmd_line(text, n, name, 0, out, 6, spans, 6, a) == ASLAPUSH_ROOM && told(0, 0, 0), "too few units");
+    expect(memcmp(spans, before, sizeof spans) == 0, "a refusal leaves the spans");
+    expect(aslapush_parse_lp_cmd_line(text, n, name, 0, out, 7, spans, 8, a) == 0 && told(0, 3, 7), "reading answers");
+    expect(same(out, 7, "exea bc"), "reading writes the texts");
+    expect(memcmp(spans, table, sizeof table) == 0, "reading writes the spans and keeps the rest");
+    aslapush_argument(out, 64, spans, 8, 1, part);
+    expect(part[0] == 3 && part[1] == 3, "argument 1");
+    aslapush_argument(out, 64, spans, 8, 3, part);
+    expect(part[0] == 0 && part[1] == 0, "a span reaching past the text");
+    aslapush_argument(out, 64, spans, 8, 4, part);
+    expect(part[0] == 0 && part[1] == 0, "an index not in the table");
+    n = units(" a a a", text);
+    ready();
+    expect(aslapush_parse_lp_cmd_line(text, n, name, 0, out, n, spans, 2 * (n / 2 + 1), a) == 0 && told(0, 4, 3), "as many arguments as 6 units can have");
+    ready();
+    expect(aslapush_parse_lp_cmd_line(text, 0, text, 3, out, 3, spans, 2, a) == 0 && told(0, 1, 3) && same(out, 3, " a "), "the executable name");
+}
+
+static void lines(void) {
+    uint32_t records[6] = {0, 0, 3, 0, 3, 0}, quotes[3] = {0, 0, 4}, odd[3] = {2, 0, 0}, past[3] = {1, 1, 3};
+    size_t p = units("exe", name), t = units("a b", text);
+    expect(line(p, records, 6, t, 0, 64) == 0 && told(0, 0, 14) && same(out, 14, "\"exe\" \"a b\" \"\""), "a line");
+    expect(line(p, records, 5, t, 0, 64) == ASLAPUSH_RECORD && told(2, 0, 0), "a cut record");
+    expect(line(p, odd, 3, t, 0, 64) == ASLAPUSH_RECORD && told(1, 0, 0), "a kind that is none");
+    expect(line(p, past, 3, t, 0, 64) == ASLAPUSH_RECORD && told(1, 0, 0), "a part that reaches past the text");
+    text[1] = 0;
+    expect(line(p, records, 6, t, 0, 64) == ASLAPUSH_NUL && told(1, 0, 0), "a NUL");
+    name[1] = 0;
+    expect(line(p, records, 6, t, 0, 64) == ASLAPUSH_NUL && told(0, 0, 0), "a NUL in the program");
+    p = units("exe", name);
+    t = units("xyz", text);
+    expect(line(p, records, 3, t, 5, 64) == 0 && same(out, a[2], "\"exe\" \"xyz\""), "quotes forced by 5");
+    t = repeated('"', 4, text);
+    expect(line(p, quotes, 3, t, 1, p + 2 + 2 * 4 + 3) == 0 && told(0, 0, p + 2 + 2 * 4 + 3), "the bound of a line, met");
+    expect(line(p, quotes, 3, t, 1, p + 2 + 2 * 4 + 2) == ASLAPUSH_ROOM && told(0, 0, 0), "a unit of room less");
+    p = repeated('a', ASLAPUSH_LINE_UNITS - 2, name);
+    expect(line(p, records, 0, 0, 0, ASLAPUSH_LINE_UNITS) == 0 && told(0, 0, ASLAPUSH_LINE_UNITS), "the longest line");
+    expect(line(p, records, 0, 0, 0, ASLAPUSH_LINE_UNITS - 1) == ASLAPUSH_ROOM && told(0, 0, 0), "the longest line, for CreateProcessW");
+    p = repeated('a', ASLAPUSH_LINE_UNITS - 1, name);
+    expect(line(p, records, 0, 0, 0, ASLAPUSH_BLOCK_UNITS) == ASLAPUSH_LENGTH && told(0, 0, 0), "a line too long");
+}
+
+static void batches(void) {
+    uint32_t records[3] = {0, 0, 3};
+    size_t p = units("a.bat", name), t = units("x y", text);
+    expect(batch(p, records, 3, t, 0, 64) == 0 && told(0, 0, 42), "a batch line is built");
+    expect(same(out, 42, "cmd.exe /e:ON /v:OFF /d /c \"\"a.bat\" \"x y\"\""), "the batch line");
+    text[2] = 13;
+    expect(batch(p, records, 3, t, 0, 64) == ASLAPUSH_LINE_BREAK && told(1, 0, 0), "CR");
+    name[4] = '\\';
+    expect(batch(p, records, 3, t, 0, 64) == ASLAPUSH_SCRIPT && told(0, 0, 0), "a script whose last unit is a backslash");
+    name[p] = 0;
+    expect(batch(p + 1, records, 0, 0, 0, 64) == 0 && told(0, 0, p + 31), "a script whose last unit as lent is a NUL");
+    name[0] = '"';
+    expect(batch(p + 1, records, 0, 0, 0, 64) == ASLAPUSH_SCRIPT && told(0, 0, 0), "a script with a quote mark");
+    p = units("a.bat", name);
+    t = repeated('%', 3, text);
+    expect(batch(p, records, 3, t, 0, p + 31 + 8 * 3 + 3) == 0 && told(0, 0, p + 31 + 8 * 3 + 3), "the bound of a batch line, met");
+    expect(batch(p, records, 3, t, 0, p + 31 + 8 * 3 + 2) == ASLAPUSH_ROOM && told(0, 0, 0), "a unit of room less");
+    p = repeated('a', ASLAPUSH_BATCH_UNITS - 31, name);
+    expect(batch(p, records, 0, 0, 0, ASLAPUSH_BATCH_UNITS) == 0 && told(0, 0, ASLAPUSH_BATCH_UNITS), "the longest batch line");
+    p = repeated('a', ASLAPUSH_BATCH_UNITS - 30, name);
+    expect(batch(p, records, 0, 0, 0, ASLAPUSH_BLOCK_UNITS) == ASLAPUSH_LENGTH && told(0, 0, 0), "a batch line too long");
+}
+
+static void blocks(void) {
+    uint32_t entry[4] = {0, 1, 1, 1}, split[4] = {0, 1, 2, 3}, joined[4] = {0, 3, 4, 1};
+    size_t t = units("A1", text);
+    expect(block(entry, 4, t, 5) == 0 && told(0, 0, 5) && memcmp(out, (uint16_t[]){65, 61, 49, 0, 0}, 10) == 0, "a block, in its room");
+    expect(block(entry, 4, t, 4) == ASLAPUSH_ROOM && told(0, 0, 0), "a unit of room less");
+    expect(block(entry, 0, t, 2) == 0 && told(0, 0, 2) && out[0] == 0 && out[1] == 0, "a block of no entries");
+    text[1] = 0;
+    expect(block(entry, 4, t, 64) == ASLAPUSH_NUL && told(1, 0, 0), "a NUL in a value");
+    t = units("a=b=c", text);
+    expect(block(split, 4, t, 64) == 0 && told(0, 0, 7) && same(out, 5, "a=b=c"), "key a, value b=c");
+    expect(block(joined, 4, t, 64) == 0 && told(0, 0, 7) && same(out, 5, "a=b=c"), "key a=b, value c");
+}
+
+static void statuses(void) {
+    expect(status(3221225477u, ASLAPUSH_STATUS_UNITS) == 0 && told(0, 0, 21) && same(out, 21, "exit code: 0xc0000005"), "a status");
+    expect(status(0, 11) == ASLAPUSH_ROOM && told(0, 0, 0), "a status without room");
+    expect(aslapush_code(3221225477u) == -1073741819 && aslapush_code(2147483647u) == 2147483647, "codes");
 }
 
 int main(void) {
-    uint16_t line[64] = {0}, name[64] = {0}, text[64] = {0}, out[64] = {0};
-    uint32_t spans[8];
-    uint64_t a[4] = {9, 9, 9, 9}, part[2];
-    size_t n;
-
-    n = units("exe \"a b\" c", line);
-    memset(spans, 0xff, sizeof spans);
-    expect(aslapush_parse_lp_cmd_line(line, n, name, 0, text, 64, spans, 8, a) == 0 && told(a, 0, 3, 7), "reading answers");
-    expect(same(text, 7, "exea bc"), "reading writes the texts");
-    uint32_t table[8] = {0, 3, 3, 3, 6, 1, 0xffffffff, 0xffffffff};
-    expect(memcmp(spans, table, sizeof table) == 0, "reading writes the spans and keeps the rest");
-    aslapush_argument(text, 64, spans, 8, 1, part);
-    expect(part[0] == 3 && part[1] == 3, "argument 1");
-    aslapush_argument(text, 64, spans, 8, 3, part);
-    expect(part[0] == 0 && part[1] == 0, "a span reaching past the text");
-    aslapush_argument(text, 64, spans, 8, 4, part);
-    expect(part[0] == 0 && part[1] == 0, "an index not in the table");
-    expect(aslapush_parse_lp_cmd_line(line, n, name, 0, text, 64, spans, 5, a) == ASLAPUSH_SPANS && told(a, 0, 0, 0), "too few places");
-    expect(aslapush_parse_lp_cmd_line(line, n, name, 0, text, 6, spans, 6, a) == ASLAPUSH_ROOM && told(a, 0, 0, 0), "too few units");
-
-    uint32_t records[6] = {0, 0, 3, 0, 3, 0};
-    size_t p = units("exe", name), t = units("a b", text);
-    out[14] = 7;
-    expect(aslapush_make_command_line(name, p, records, 6, text, t, 0, out, 64, a) == 0 && told(a, 0, 0, 14), "a line is built");
-    expect(same(out, 14, "\"exe\" \"a b\" \"\"") && out[14] == 7, "the line, and what is behind it");
-    expect(aslapush_make_command_line(name, p, records, 5, text, t, 0, out, 64, a) == ASLAPUSH_RECORD && told(a, 2, 0, 0), "a cut record");
-    text[1] = 0;
-    expect(aslapush_make_command_line(name, p, records, 6, text, t, 0, out, 64, a) == ASLAPUSH_NUL && told(a, 1, 0, 0), "a NUL");
-    t = units("xyz", text);
-    expect(aslapush_make_command_line(name, p, records, 3, text, t, 5, out, 64, a) == 0 && same(out, a[2], "\"exe\" \"xyz\""), "quotes forced by 5");
-
-    p = units("a.bat", name);
-    t = units("x y", text);
-    expect(aslapush_make_bat_command_line(name, p, records, 3, text, t, 0, out, 64, a) == 0 && told(a, 0, 0, 42), "a batch line is built");
-    expect(same(out, 42, "cmd.exe /e:ON /v:OFF /d /c \"\"a.bat\" \"x y\"\""), "the batch line");
-    text[2] = 13;
-    expect(aslapush_make_bat_command_line(name, p, records, 3, text, t, 0, out, 64, a) == ASLAPUSH_LINE_BREAK && told(a, 1, 0, 0), "CR");
-    name[4] = '\\';
-    expect(aslapush_make_bat_command_line(name, p, records, 3, text, t, 0, out, 64, a) == ASLAPUSH_SCRIPT && told(a, 0, 0, 0), "a script");
-
-    uint32_t entry[4] = {0, 1, 1, 1};
-    t = units("A1", text);
-    expect(aslapush_make_envp(entry, 4, text, t, out, 64, a) == 0 && told(a, 0, 0, 5) && memcmp(out, (uint16_t[]){65, 61, 49, 0, 0}, 10) == 0, "a block");
-    expect(aslapush_make_envp(entry, 0, text, t, out, 64, a) == 0 && told(a, 0, 0, 2) && out[0] == 0 && out[1] == 0, "a block of no entries");
-
-    expect(aslapush_status_text(3221225477u, out, 64, a) == 0 && told(a, 0, 0, 21) && same(out, 21, "exit code: 0xc0000005"), "a status");
-    expect(aslapush_status_text(0, out, 11, a) == ASLAPUSH_ROOM && told(a, 0, 0, 0), "a status without room");
-    expect(aslapush_code(3221225477u) == -1073741819 && aslapush_code(2147483647u) == 2147483647, "codes");
-    p = units("a.CMD", name);
+    reading();
+    lines();
+    batches();
+    blocks();
+    statuses();
+    size_t p = units("a.CMD", name);
     expect(aslapush_has_bat_extension(name, p) == 1 && aslapush_has_bat_extension(name, p - 1) == 0, "suffixes");
     expect(aslapush_class_of(34) == 4 && aslapush_class_of(0) == 1 && aslapush_class_of(65535) == 0, "classes");
-
     printf("c: %d passed, %d failed\n", passed, failed);
     return failed != 0;
 }
