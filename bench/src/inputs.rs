@@ -30,13 +30,17 @@ pub fn cyrillic(n: usize) -> Vec<u16> {
 
 /// All cases.
 pub fn cases() -> Vec<Case> {
-    let short = ["--tenant", "7", "--schema", "orders", "--from", "2026-01-01", "--to", "2026-12-31", "-v", "--out", r"c:\export\a b.csv", "--format", "csv", "--limit", "1000", "--quiet"];
+    let short = [
+        "--tenant", "7", "--schema", "orders", "--from", "2026-01-01", "--to", "2026-12-31", "-v", "--out", r"c:\export\a b.csv", "--format", "csv", "--limit",
+        "1000", "--quiet",
+    ];
+    let dense = "select(id),name,total.from.tenant_7.orders.where(total>100)and(name<>'x')";
     let case = |name, args, force, batch| Case { name, args, force, batch };
     vec![
         case("16 short arguments", short.iter().map(|a| wide(a)).collect(), false, true),
         case("16 short arguments, forced", short.iter().map(|a| wide(a)).collect(), true, false),
         case("SQL of 30,000 units with blanks", vec![sql(30_000)], false, false),
-        case("SQL of 30,000 units without blanks", vec![repeated("select(id),name,total.from.tenant_7.orders.where(total>100)and(name<>'x')", 30_000)], false, false),
+        case("SQL of 30,000 units without blanks", vec![repeated(dense, 30_000)], false, false),
         case("quotes and backslashes, 12,000 units", vec![repeated(r#"a\"b\\c"" \\\"d"#, 12_000)], false, true),
         case("Cyrillic of 30,000 units", vec![cyrillic(30_000)], false, true),
     ]

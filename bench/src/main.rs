@@ -1,4 +1,5 @@
 //! Measures the Rust and this library on the same inputs, in one run, call by call in turn: the best time of many rounds, and the ratio.
+mod binding;
 mod inputs;
 mod ours;
 
@@ -33,7 +34,7 @@ fn seen<T>(result: T) {
 }
 
 fn row(name: &str, old: f64, new: f64) {
-    println!("{name:<44} {old:>12.0} {new:>12.0} {:>8.1}", old / new);
+    println!("{name:<52} {old:>12.0} {new:>12.0} {:>8.1}", old / new);
 }
 
 /// Writing a line and reading it back, on both sides; the two lines must be equal.
@@ -62,19 +63,25 @@ fn batches(case: &Case, ours: &mut ours::Buffers) {
     row(&format!("batch {}", case.name), old, new);
 }
 
-/// A block of 60 entries. The Rust takes its map by value, so the map is cloned outside the time that counts.
+/// The Rust's time for a block. It takes its map by value, so the map is cloned outside the time that counts.
+fn best_block(environment: &Environment) -> f64 {
+    (0..2000)
+        .map(|_| {
+            let map = environment.map();
+            let start = Instant::now();
+            black_box(block(map));
+            start.elapsed().as_nanos() as f64
+        })
+        .fold(f64::INFINITY, f64::min)
+}
+
+/// A block of 60 entries.
 fn blocks(ours: &mut ours::Buffers) {
     let entries = inputs::entries();
     let environment = Environment::new(&entries);
     let flat = ours::Flat::of_entries(&entries);
     assert_eq!(block(environment.map()), ours.block(&flat));
-    let mut old = f64::INFINITY;
-    for _ in 0..2000 {
-        let map = environment.map();
-        let start = Instant::now();
-        black_box(block(map));
-        old = old.min(start.elapsed().as_nanos() as f64);
-    }
+    let old = best_block(&environment);
     let new = best(|| seen(ours.block(&flat).len()));
     row("block of 60 entries", old, new);
 }
@@ -89,7 +96,7 @@ fn statuses(ours: &mut ours::Buffers) {
 
 /// How time grows with the units: linear time is 30 times from 1,000 to 30,000.
 fn growth(ours: &mut ours::Buffers) {
-    println!("\n{:<44} {:>12} {:>12} {:>8}", "growth, ours, ns", "1,000 units", "30,000 units", "times");
+    println!("\n{:<52} {:>12} {:>12} {:>8}", "growth, ours, ns", "1,000 units", "30,000 units", "times");
     for (name, text) in [("SQL with blanks", sql as fn(usize) -> Vec<u16>), ("Cyrillic", cyrillic)] {
         let flats = [1_000, 30_000].map(|n| ours::Flat::new(&[text(n)]));
         let program = inputs::wide("export.exe");
@@ -97,14 +104,15 @@ fn growth(ours: &mut ours::Buffers) {
         let lines = [0, 1].map(|i| ours.line(&program, &flats[i], false).to_vec());
         let back = [0, 1].map(|i| best(|| seen(ours.read(black_box(&lines[i])))));
         for (verb, [small, large]) in [("write", write), ("read", back)] {
-            println!("{:<44} {small:>12.0} {large:>12.0} {:>8.1}", format!("{verb} {name}"), large / small);
+            println!("{:<52} {small:>12.0} {large:>12.0} {:>8.1}", format!("{verb} {name}"), large / small);
         }
     }
 }
 
 fn main() {
     let mut ours = ours::Buffers::new();
-    println!("{:<44} {:>12} {:>12} {:>8}", "best of 60 rounds, ns a call", "the Rust", "ours", "ratio");
+    println!("outputs are lent once and not cleared; the binding allocates its results, as the Rust does");
+    println!("{:<52} {:>12} {:>12} {:>8}", "best of 60 rounds, ns a call", "the Rust", "ours", "ratio");
     for case in cases() {
         lines(&case, &mut ours);
     }
@@ -113,5 +121,6 @@ fn main() {
     }
     blocks(&mut ours);
     statuses(&mut ours);
+    binding::rows();
     growth(&mut ours);
 }

@@ -55,7 +55,7 @@ pub struct Buffers {
 
 impl Buffers {
     pub fn new() -> Buffers {
-        Buffers { out: vec![0; 65_536], spans: vec![0; 32_768] }
+        Buffers { out: vec![0; aslapush::BLOCK_UNITS], spans: vec![0; aslapush::READ_UNITS + 1] }
     }
 
     fn built(&self, number: u32, answer: [u64; 4]) -> &[u16] {
