@@ -1,5 +1,6 @@
 //! Why nothing was answered. The numbers, and when each is given, follow the table "Refusals" of the repository's README.md.
-//! A new number is a variant here; the compiler then asks for its row in every match but [`Refusal::of`], and the test below for that one.
+//! A new number is a variant here: the compiler then asks for its row in every match but that of [`Refusal::of`], and the tests below for that one and for
+//! the header's.
 use std::fmt;
 
 /// Why nothing was answered. The place is the index plus 1 of the argument or entry at fault, or 0 for the program, script or line.
@@ -93,10 +94,28 @@ impl std::error::Error for Refusal {}
 mod tests {
     use super::Refusal;
 
+    /// The numbers of README.md's table.
+    fn table() -> Vec<u32> {
+        let section = include_str!("../../../README.md").split("## Refusals").nth(1).unwrap().split("\n## ").next().unwrap();
+        section.lines().filter_map(|row| row.strip_prefix('|')?.split('|').next()?.trim().parse().ok()).collect()
+    }
+
+    /// The numbers of the header's list.
+    fn header() -> Vec<u32> {
+        let list = include_str!("../../../include/aslapush.h").split("/* Refusals:").nth(1).unwrap().split("};").next().unwrap();
+        let number = |row: &str| row.split_once(" = ")?.1.split(|c: char| !c.is_ascii_digit()).next()?.parse().ok();
+        list.lines().filter_map(number).collect()
+    }
+
     #[test]
-    fn every_number_is_decoded_as_itself() {
+    fn the_header_has_the_numbers_of_the_table() {
+        assert_eq!(header(), table());
+    }
+
+    #[test]
+    fn every_number_of_the_table_is_decoded_as_itself() {
         let with_place = [1, 5, 6];
-        for number in 1..=7 {
+        for number in table() {
             let refusal = Refusal::of(number, 9);
             assert_eq!(refusal.number(), number);
             assert_eq!(refusal.place(), if with_place.contains(&number) { 9 } else { 0 });
@@ -105,7 +124,7 @@ mod tests {
 
     #[test]
     fn no_other_number_is_taken_for_one() {
-        for number in [0, 8, 9, 10, 255, 256, 257, u32::MAX] {
+        for number in (0..300).chain([u32::MAX]).filter(|number| !table().contains(number)) {
             let message = *std::panic::catch_unwind(|| Refusal::of(number, 3)).unwrap_err().downcast::<String>().unwrap();
             assert!(message.contains(&format!("refused by {number} at place 3")), "{message}");
         }
