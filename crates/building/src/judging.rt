@@ -38,10 +38,12 @@ pub fn judge_units(batch: bool, text: &[u16], units: usize, place: usize, arg: A
     ensures { λ r. ⌜ r ≡ unitsJudged batch units place (argumentOf (now (text .entry)) arg) ⌝ }
 {
     let content = parts::part_of(text, arg.start, arg.len);
-    if breaks_line(batch, arg.kind, content) {
+    let breaks = breaks_line(batch, arg.kind, content);
+    let nul = scans::has_nul(content);
+    if breaks {
         return Progress::Stopped(Refusal::LineBreak(place));
     }
-    if scans::has_nul(content) {
+    if nul {
         return Progress::Stopped(Refusal::Nul(place));
     }
     Progress::On(limits::count_on(units, most_units(batch, content.len())))

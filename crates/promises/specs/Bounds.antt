@@ -9,13 +9,13 @@ use lib.ListN.{length, replicate, length-append}
 use Rattle.rules.specs.Choice.{either, isEmpty}
 use Rattle.rules.specs.Unit.{units, quote, percent, isForcing}
 use Rattle.rules.specs.Outcome.{done}
-use Rattle.rules.specs.Quoting.{escaped, needsQuotes, enclosed, form}
+use Rattle.rules.specs.Quoting.{escaped, needsQuotes, form}
 use Rattle.rules.specs.Batch.{batchEscaped, endsInBackslash, needsBatchQuotes, batchForm}
 use Rattle.rules.specs.Building.{batchLine, batchFront}
 use Rattle.rules.specs.Reading.{readLimit, lineOf, between, later, arguments, argumentsRead, unitsRead, joined, reading}
 use Rattle.rules.specs.Status.{digits, highBit, statusFront, statusText}
 use Rattle.laws.specs.Choice.{choose}
-use Rattle.laws.specs.Length.{escaped-length, batch-escaped-length, digits-length}
+use Rattle.laws.specs.Length.{form-length, batch-form-length, digits-length}
 use Rattle.laws.specs.Extent.{read-extent}
 use Rattle.promises.specs.Reading.{read-given}
 
@@ -23,19 +23,11 @@ use Rattle.promises.specs.Reading.{read-given}
 
 -- an argument of n units takes at most 2n + 2
 pub form-bound : (force : Bool) (xs : List ℕ) → length (form force xs) ≤ 2 * length xs + 2
-unfolding form
-form-bound force xs =
-    choose (λ r. length r ≤ 2 * length xs + 2) (needsQuotes force xs) {x = enclosed (escaped true 0 xs)} {y = escaped false 0 xs}
-    (simp length-append (omega (arith, escaped-length true xs 0)))
-    (omega (arith, escaped-length false xs 0))
+form-bound force xs = form-length force xs
 
 -- in a batch line an argument of n units takes at most 8n + 2
 pub batch-form-bound : (force : Bool) (xs : List ℕ) → length (batchForm force xs) ≤ 8 * length xs + 2
-unfolding batchForm
-batch-form-bound force xs =
-    choose (λ r. length r ≤ 8 * length xs + 2) (needsBatchQuotes force xs) {x = enclosed (batchEscaped true 0 xs)} {y = batchEscaped false 0 xs}
-    (simp length-append (omega (arith, batch-escaped-length true xs 0)))
-    (omega (arith, batch-escaped-length false xs 0))
+batch-form-bound force xs = batch-form-length force xs
 
 -- a batch line without arguments has 31 units more than its script, the dropped NUL not counted
 pub batch-line-length : (force : Bool) (script : List ℕ) → length (batchLine force script []) ≡ length script + 31

@@ -39,13 +39,17 @@ turn-requires c κs = search needs
 
 loop-less : tie.Need-loop-less Inv-loop μ-loop
 loop-less c =
-    let l = c .before .before .before .before .before .before .before in
-    turns _ _ _ _ _ (l .loop .inv .0) (c .before .before .before .before .before .before .loop-test .taken) (λ h. c .before .before .before .before .before .record-at .ensures) (c .before .before .turn .ensures) .1
+    let t = c .before .before in
+    let r = t .before .before .before in
+    let l = r .before .before in
+    turns _ _ _ _ _ (l .loop .inv .0) (r .before .loop-test .taken) (λ h. r .record-at .ensures) (t .turn .ensures) .1
 
 loop-again : tie.Need-loop-again Inv-loop μ-loop
 loop-again c =
-    let l = c .before .before .before .before .before .before .before in
-    (turns _ _ _ _ _ (l .loop .inv .0) (c .before .before .before .before .before .before .loop-test .taken) (λ h. c .before .before .before .before .before .record-at .ensures) (c .before .before .turn .ensures) .0, search needs)
+    let t = c .before .before in
+    let r = t .before .before .before in
+    let l = r .before .before in
+    (turns _ _ _ _ _ (l .loop .inv .0) (r .before .loop-test .taken) (λ h. r .record-at .ensures) (t .turn .ensures) .0, search needs)
 
 same-length : tie.Need-same-length Inv-loop μ-loop
 same-length c = search needs

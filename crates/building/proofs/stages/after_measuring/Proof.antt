@@ -20,7 +20,8 @@ stop-requires-2 c κs = search needs
 
 returns-2 : tie.Need-returns-2
 returns-2 c =
-    let e = le-ltb _ _ (rw (c .before .before .before .before .before .limit-of .ensures) at (c .before .before .before .if1 .left)) in
+    let i = c .before .before .before in
+    let e = le-ltb _ _ (rw (i .before .before .limit-of .ensures) at (i .if1 .left)) in
     let f = lt-ltb _ _ (c .before .if2 .taken) in
     record { works = rw (e, f) (c .stop2 .ensures); stores = rw (e, f) }
 
@@ -32,9 +33,12 @@ same-length c = search needs
 
 returns-3 : tie.Need-returns-3
 returns-3 c =
-    let e = le-ltb _ _ (rw (c .before .before .before .before .before .before .before .before .limit-of .ensures) at (c .before .before .before .before .before .before .if1 .left)) in
-    let f = le-ltb _ _ (c .before .before .before .before .if2 .left) in
-    record { works = rw (e, f) (c .before .before .«open» .ensures .works); stores = rw (e, f) (c .before .before .«open» .ensures .stores) }
+    let o = c .before .before in
+    let j = o .before .before in
+    let i = j .before .before in
+    let e = le-ltb _ _ (rw (i .before .before .limit-of .ensures) at (i .if1 .left)) in
+    let f = le-ltb _ _ (j .if2 .left) in
+    record { works = rw (e, f) (o .«open» .ensures .works); stores = rw (e, f) (o .«open» .ensures .stores) }
 
 pub after-measuring-spec : {M : Type 1} → statement M
 after-measuring-spec =

@@ -22,7 +22,9 @@ stop-requires-2 : tie.Need-stop-requires-2
 stop-requires-2 c κs = search needs
 
 returns-2 : tie.Need-returns-2
-returns-2 c = rw (← c .before .before .before .before .before .is-no-script .ensures, c .before .before .before .before .if1 .left, ← c .before .before .before .name-of .ensures, ← c .before .before .has-nul .ensures, c .before .if2 .taken) (c .stop2 .ensures)
+returns-2 c =
+    let n = c .before .before .before in
+    rw (← n .before .before .is-no-script .ensures, n .before .if1 .left, ← n .name-of .ensures, ← c .before .before .has-nul .ensures, c .before .if2 .taken) (c .stop2 .ensures)
 
 frame-units-requires : tie.Need-frame-units-requires
 frame-units-requires c κs = search needs
@@ -31,7 +33,9 @@ enter-requires : tie.Need-enter-requires
 enter-requires c κs = search needs
 
 returns-3 : tie.Need-returns-3
-returns-3 c = rw (← c .before .before .before .before .before .before .is-no-script .ensures, c .before .before .before .before .before .if1 .left, ← c .before .before .before .before .name-of .ensures, ← c .before .before .before .has-nul .ensures, c .before .before .if2 .left, ← c .before .frame-units .ensures) (c .enter .ensures)
+returns-3 c =
+    let n = c .before .before .before .before in
+    rw (← n .before .before .is-no-script .ensures, n .before .if1 .left, ← n .name-of .ensures, ← c .before .before .before .has-nul .ensures, c .before .before .if2 .left, ← c .before .frame-units .ensures) (c .enter .ensures)
 
 pub after-records-spec : {M : Type 1} → statement M
 after-records-spec =

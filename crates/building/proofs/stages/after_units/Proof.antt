@@ -15,9 +15,10 @@ same-length c = search needs
 
 returns : tie.Need-returns
 returns c =
-    let o = c .before .before .«open» .ensures in
-    let e = rw (c .before .before .before .before .if1 .taken) at (sym (c .before .before .before .before .before .surely-fits .ensures)) in
-    record { works = rw e (o .works); stores = rw e (o .stores) }
+    let o = c .before .before in
+    let i = o .before .before in
+    let e = rw (i .if1 .taken) at (sym (i .before .surely-fits .ensures)) in
+    record { works = rw e (o .«open» .ensures .works); stores = rw e (o .«open» .ensures .stores) }
 
 name-of-requires : tie.Need-name-of-requires
 name-of-requires c κs = search needs

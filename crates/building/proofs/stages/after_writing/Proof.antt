@@ -19,7 +19,11 @@ same-length : tie.Need-same-length
 same-length c = search needs
 
 returns : tie.Need-returns
-returns c = ended-in (c .before .before .before .before .before .before .before .before .before .args .work) (c .before .before .before .before .before .before .before .before .before .args .out .now) true (c .before .before .before .before .before .before .if1 .taken) (rw (← c .before .count-on .ensures) (c .finish .ensures)) (c .before .before .before .before .put .ensures)
+returns c =
+    let p = c .before .before .before .before in
+    let s = p .before .before in
+    let a = s .before .before .before .args in
+    ended-in (a .work) (a .out .now) true (s .if1 .taken) (rw (← c .before .count-on .ensures) (c .finish .ensures)) (p .put .ensures)
 
 finish-requires-2 : tie.Need-finish-requires-2
 finish-requires-2 c κs = search needs

@@ -16,7 +16,10 @@ same-length : tie.Need-same-length
 same-length c = search needs
 
 returns : tie.Need-returns
-returns c = record { works = rw (c .enter .ensures, c .before .before .before .put-head .ensures .counts, c .before .before .before .before .before .name-of .ensures); stores = rw (← c .before .before .before .before .before .name-of .ensures) (c .before .before .before .put-head .ensures .stores) }
+returns c =
+    let p = c .before .before .before in
+    let name = p .before .before .name-of .ensures in
+    record { works = rw (c .enter .ensures, p .put-head .ensures .counts, name); stores = rw (← name) (p .put-head .ensures .stores) }
 
 pub open-spec : {M : Type 1} → statement M
 open-spec =

@@ -33,10 +33,15 @@ lent-units-requires : tie.Need-lent-units-requires
 lent-units-requires c κs = search needs
 
 slice-relend-prefix-add-argument : tie.Need-slice-relend-prefix-add-argument
-slice-relend-prefix-add-argument c = rw (c .lent-units .ensures) (lent-within (c .before .before .before .before .before .before .args .work .pass) (length (c .before .before .before .before .before .before .args .out .now)))
+slice-relend-prefix-add-argument c =
+    let a = c .before .before .before .before .before .before .args in
+    rw (c .lent-units .ensures) (lent-within (a .work .pass) (length (a .out .now)))
 
 slice-aggregate-add-argument : tie.Need-slice-aggregate-add-argument
-slice-aggregate-add-argument c = sym (length-take-le (c .before .lent-units .result) (c .before .before .before .before .before .before .before .args .out .now) (rw (c .before .lent-units .ensures) (lent-within (c .before .before .before .before .before .before .before .args .work .pass) (length (c .before .before .before .before .before .before .before .args .out .now)))))
+slice-aggregate-add-argument c =
+    let l = c .before in
+    let a = c .before .before .before .before .before .before .before .args in
+    sym (length-take-le (l .lent-units .result) (a .out .now) (rw (l .lent-units .ensures) (lent-within (a .work .pass) (length (a .out .now)))))
 
 add-argument-requires : tie.Need-add-argument-requires
 add-argument-requires c κs = search needs
@@ -54,7 +59,10 @@ same-length : tie.Need-same-length
 same-length c = search needs
 
 returns-3 : tie.Need-returns-3
-returns-3 c = form-taken (c .before .before .before .before .before .before .match .keys3) (c .before .before .before .before .before .lent-units .ensures) (c .before .before .before .add-argument .ensures) (c .go-on3 .ensures)
+returns-3 c =
+    let w = c .before .before .before in
+    let l = w .before .before in
+    form-taken (l .before .match .keys3) (l .lent-units .ensures) (w .add-argument .ensures) (c .go-on3 .ensures)
 
 pub take-spec : {M : Type 1} → statement M
 take-spec =
