@@ -11,6 +11,7 @@ ghost use Rattle.rules.specs.Status.{statusOutcome, signedCode};
 ghost use Rattle.rules.specs.Suffix.{hasBatchSuffix};
 ghost use Rattle.aslapush.specs.Export.{forces, Wrote, Gave, argumentSpan, asNumber};
 use answers::tell_built;
+use answers::tell_filled;
 use answers::tell_parsed;
 
 // Reads a line into texts and spans. Returns the refusal's number, 0 for an answer.
@@ -70,8 +71,8 @@ pub extern "C" fn aslapush_make_envp(
 ) -> u32
     ensures { λ r. ⌜ Wrote (environmentBlock (now (records .entry)) (now (text .entry)) (length (now (out .entry)))) r (now (answer .exit)) (now (out .entry)) (now (out .exit)) ⌝ }
 {
-    let built = blocks::make_envp(records, text, out);
-    tell_built(built, answer)
+    let filled = blocks::make_envp(records, text, out);
+    tell_filled(filled, answer)
 }
 
 // Writes the text of a child status. Returns the refusal's number, 0 for an answer.
@@ -79,8 +80,8 @@ pub extern "C" fn aslapush_make_envp(
 pub extern "C" fn aslapush_status_text(status: u32, out: &mut [u16], answer: &mut [u64; 4]) -> u32
     ensures { λ r. ⌜ Wrote (statusOutcome status (length (now (out .entry)))) r (now (answer .exit)) (now (out .entry)) (now (out .exit)) ⌝ }
 {
-    let built = status::status_text(status, out);
-    tell_built(built, answer)
+    let filled = status::status_text(status, out);
+    tell_filled(filled, answer)
 }
 
 // The signed code of a child status.

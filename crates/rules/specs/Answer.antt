@@ -47,15 +47,29 @@ argumentsSaid (refused number place) = refusal number place
 
 -- ---- what an answer says: the one place where the enums' cases get the document's numbers
 
--- the number and the place of each refusal
+-- the number of each refusal
+abbrev pub numberOf : Refusal → ℕ
+numberOf (Refusal.Record place) = 1
+numberOf Refusal.Length = 2
+numberOf Refusal.Places = 3
+numberOf Refusal.Room = 4
+numberOf (Refusal.Nul place) = 5
+numberOf (Refusal.LineBreak place) = 6
+numberOf Refusal.Script = 7
+
+-- its place: that of a record, else 0
+abbrev pub placeOf : Refusal → ℕ
+placeOf (Refusal.Record place) = place
+placeOf Refusal.Length = 0
+placeOf Refusal.Places = 0
+placeOf Refusal.Room = 0
+placeOf (Refusal.Nul place) = place
+placeOf (Refusal.LineBreak place) = place
+placeOf Refusal.Script = 0
+
+-- a refusal says its number and its place
 abbrev pub refusalSaid : Refusal → Said
-refusalSaid (Refusal.Record place) = refusal 1 place
-refusalSaid Refusal.Length = refusal 2 0
-refusalSaid Refusal.Places = refusal 3 0
-refusalSaid Refusal.Room = refusal 4 0
-refusalSaid (Refusal.Nul place) = refusal 5 place
-refusalSaid (Refusal.LineBreak place) = refusal 6 place
-refusalSaid Refusal.Script = refusal 7 0
+refusalSaid r = refusal (numberOf r) (placeOf r)
 
 -- the answer of a builder of lines
 abbrev pub builtSaid : Built → Said

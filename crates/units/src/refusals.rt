@@ -1,11 +1,11 @@
 // A refusal's number and place: the one place in code where the names become the document's numbers.
 ghost use mathlib.Core.Path.{_≡_};
-ghost use Rattle.rules.specs.Answer.{refusalSaid};
+ghost use Rattle.rules.specs.Answer.{numberOf, placeOf};
 use rules::Refusal;
 
-// The refusal's number, 1 to 7.
+// The refusal's number.
 pub fn number_of(r: Refusal) -> u32
-    ensures { λ n. ⌜ n ≡ refusalSaid r .number ⌝ }
+    ensures { λ n. ⌜ n ≡ numberOf r ⌝ }
 {
     match r {
         Refusal::Record(_) => 1,
@@ -20,7 +20,7 @@ pub fn number_of(r: Refusal) -> u32
 
 // The refusal's place: the index of the record at fault plus 1, else 0.
 pub fn place_of(r: Refusal) -> usize
-    ensures { λ n. ⌜ n ≡ refusalSaid r .place ⌝ }
+    ensures { λ n. ⌜ n ≡ placeOf r ⌝ }
 {
     match r {
         Refusal::Record(place) => place,
