@@ -1,124 +1,75 @@
--- The turns of `read_first`: what is still to be read of argument 0. Assumes nothing.
+-- How argument 0 goes on from a place in it, in the steps of the reader. Assumes nothing.
 use mathlib.Core.Path.{_≡_, refl, sym, ap, _∙_}
 use mathlib.Core.Bool.{Bool, true, false, not}
-use mathlib.Core.List.{List, [], _∷_, _++_}
-use Prim.Native.Nat.{ℕ, suc, _+_, _-_, _≤_, _<_}
+use mathlib.Core.List.{List, [], _∷_}
+use Prim.Native.Nat.{ℕ, suc, _+_, _≤_, _<_}
+use native.Mathlib.Nat.{add-zero}
 use native.Mathlib.Omega.{arith}
-use lib.ListN.{length, getD, take, drop, drop-of-length-le, length-append, length-drop}
-use lib.Seq.{sets, length-sets, length-take-le, drop-drop}
-use borrow.Author.Tests.{eqb-true, ne-eqb}
-use Rattle.rules.specs.Choice.{pick, flip, either}
-use Rattle.rules.specs.Unit.{isQuote, isBackslash}
+use lib.ListN.{length, getD, take, drop}
+use lib.Seq.{sets, length-take-le}
+use borrow.Author.Tests.{ne-eqb}
+use Rattle.rules.specs.Choice.{pick, flip}
+use Rattle.rules.specs.Unit.{isQuote, quote}
 use Rattle.rules.specs.Reading.{argument0, behind0}
 use Rattle.laws.specs.Scan.{leading, leading-in}
-use Rattle.laws.specs.Store.{sets-append}
-use Rattle.reading.specs.Run.{isEnd, isPlain, startsWith}
-use Rattle.reading.specs.Part.{FirstRead}
-use Rattle.reading.proofs.Run.{never, not-flip, at, at-is}
-
--- where backslashes mean nothing, a unit is taken as it is if it is no quote mark and no end
-kept-is : (q : Bool) (x : ℕ) → isPlain false q x ≡ flip (either (isQuote x) (isEnd q x))
-kept-is q x = go (isQuote x) (isBackslash x) refl
-  where
-    no-end : (p : Bool) → isBackslash x ≡ true → isEnd p x ≡ false
-    no-end true e = refl
-    no-end false e = rw (eqb-true x 92 e)
-
-    go : (b c : Bool) → isBackslash x ≡ c → pick b false (pick c true (flip (isEnd q x))) ≡ flip (either b (isEnd q x))
-    go true c e = refl
-    go false true e = rw (no-end q e)
-    go false false e = refl
+use Rattle.reading.specs.Run.{isEnd, isKept, startsWith}
+use Rattle.reading.specs.Next.{ahead, first, OneRead}
+use Rattle.reading.proofs.Run.{never, at, at-is}
+use Rattle.reading.proofs.Still as still
+use Rattle.reading.proofs.Still.{Still}
 
 -- a run of units that are kept is read as itself
-pub keeps-run : (q : Bool) (xs : List ℕ)
-    → (argument0 q xs ≡ take (leading (isPlain false q) xs) xs ++ argument0 q (drop (leading (isPlain false q) xs) xs)) × (behind0 q xs ≡ behind0 q (drop (leading (isPlain false q) xs) xs))
+keeps-run : (q : Bool) (xs : List ℕ) → first q xs ≡ ahead (take (leading (isKept q) xs) xs) (first q (drop (leading (isKept q) xs) xs))
 unfolding leading argument0 behind0
-keeps-run q [] = (refl, refl)
-keeps-run q (x ∷ xs) = rw (kept-is q x) (go (isQuote x) (isEnd q x) (keeps-run q xs) refl refl)
+keeps-run q [] = refl
+keeps-run q (x ∷ xs) = go (isQuote x) (isEnd q x) (keeps-run q xs) refl refl
   where
     r : ℕ
-    r = leading (isPlain false q) xs
+    r = leading (isKept q) xs
 
-    go : (b c : Bool) → (argument0 q xs ≡ take r xs ++ argument0 q (drop r xs)) × (behind0 q xs ≡ behind0 q (drop r xs)) → isQuote x ≡ b → isEnd q x ≡ c
-        → (argument0 q (x ∷ xs) ≡ take (pick (flip (either b c)) (suc r) 0) (x ∷ xs) ++ argument0 q (drop (pick (flip (either b c)) (suc r) 0) (x ∷ xs)))
-        × (behind0 q (x ∷ xs) ≡ behind0 q (drop (pick (flip (either b c)) (suc r) 0) (x ∷ xs)))
-    go true c h u e = (refl, refl)
-    go false true h u e = (refl, refl)
-    go false false h u e = (rw (u, e) (ap (λ (l : List ℕ). x ∷ l) (h .0)), rw (u, e) (h .1))
+    go : (b c : Bool) → first q xs ≡ ahead (take r xs) (first q (drop r xs)) → isQuote x ≡ b → isEnd q x ≡ c
+        → (let k = pick (pick b false (flip c)) (suc r) 0 in first q (x ∷ xs) ≡ ahead (take k (x ∷ xs)) (first q (drop k (x ∷ xs))))
+    go true c h u e = refl
+    go false true h u e = refl
+    go false false h u e = rw (u, e) (ap (ahead (x ∷ [])) h)
 
--- i units of the line are used and n are written; what is left of argument 0 is that of the rest
-pub record Keeping (line before out : List ℕ) (i n : ℕ) (quoted : Bool) : Type 0 where
-  pub behind : behind0 quoted (drop i line) ≡ behind0 false line
-  pub counts : n + length (argument0 quoted (drop i line)) ≡ length (argument0 false line)
-  pub stores : sets out n (argument0 quoted (drop i line)) ≡ sets before 0 (argument0 false line)
-  pub within : i ≤ length line
-  pub few : n ≤ i
+-- a quote mark toggles quoted mode
+toggled : (q : Bool) (xs : List ℕ) → first q (quote ∷ xs) ≡ first (not q) xs
+unfolding argument0 behind0
+toggled true xs = refl
+toggled false xs = refl
 
--- where the line begins
-pub starts : (line before : List ℕ) → Keeping line before before 0 0 false
-starts line before = record { behind = refl; counts = omega arith; stores = refl; within = omega arith; few = omega arith }
+-- a unit that is neither kept nor a quote mark ends it
+ended : (q : Bool) (x : ℕ) (xs : List ℕ) → isQuote x ≡ false → isKept q x ≡ false → first q (x ∷ xs) ≡ record { argument = []; behind = xs }
+unfolding argument0 behind0
+ended q x xs u k = let e : isEnd q x ≡ true = flipped (isEnd q x) (rw u at k) in rw (u, e)
+  where
+    flipped : (b : Bool) → flip b ≡ false → b ≡ true
+    flipped true z = refl
+    flipped false z = absurd (never (sym z))
 
-module _ {line before out : List ℕ} {i n : ℕ} {q : Bool} (r : Keeping line before out i n q) where
-  -- the output keeps its length
-  pub same-length : length out ≡ length before
-  same-length = sym (length-sets out n (argument0 q (drop i line))) ∙ ap length (r .stores) ∙ length-sets before 0 (argument0 false line)
-
+module _ {line before out : List ℕ} {i n : ℕ} {q : Bool} (r : Still first line before out i n q) where
   -- a run more
-  pub keeps : {after : List ℕ} (run : ℕ) → run ≡ leading (isPlain false q) (drop i line) → after ≡ sets out n (take run (drop i line)) → Keeping line before after (i + run) (n + run) q
-  keeps {after} run e w =
+  pub keeps : {after : List ℕ} (run : ℕ) → run ≡ leading (isKept q) (drop i line) → after ≡ sets out n (take run (drop i line)) → Still first line before after (i + run) (n + run) q
+  keeps run e w =
       let xs = drop i line in
-      let d : length xs ≡ length line - i = length-drop i line in
-      let l : leading (isPlain false q) xs ≤ length xs = leading-in (isPlain false q) xs in
+      let l : leading (isKept q) xs ≤ length xs = leading-in (isKept q) xs in
       let t : length (take run xs) ≡ run = length-take-le run xs (omega arith) in
-      let (a, b) = keeps-run q xs in
-      let left = argument0 q (drop (i + run) line) in
-      let a′ : argument0 q xs ≡ take run xs ++ left = a ∙ rw (← e, drop-drop) in
-      let c : length (argument0 q xs) ≡ run + length left = ap length a′ ∙ rw (length-append, t) in
-      let m : sets out n (argument0 q xs) ≡ sets (sets out n (take run xs)) (n + run) left = rw (a′, sets-append out n (take run xs) left, t) in
-      record {
-        behind = sym (b ∙ rw (← e, drop-drop)) ∙ r .behind;
-        counts = omega (arith, r .counts);
-        stores = rw w (sym m ∙ r .stores);
-        within = omega (arith, r .within);
-        few = omega (arith, r .few);
-      }
+      rw t at (still.goes r {q′ = q} run (take run xs) (keeps-run q xs ∙ rw (← e)) (omega arith) (omega arith) w)
 
-  -- a quote mark toggles quoted mode
-  pub toggles : i < length line → getD line i 0 ≡ 34 → Keeping line before out (i + 1) n (not q)
-  unfolding argument0 behind0
+  -- a quote mark
+  pub toggles : i < length line → getD line i 0 ≡ 34 → Still first line before out (i + 1) n (not q)
   toggles h u =
       let e : drop i line ≡ 34 ∷ drop (i + 1) line = at-is line i 34 h u in
-      rw (not-flip q)
-      (record {
-        behind = rw e at (r .behind);
-        counts = rw e at (r .counts);
-        stores = rw e at (r .stores);
-        within = omega arith;
-        few = omega (arith, r .few);
-      })
-
-  done : (j : ℕ) → argument0 q (drop i line) ≡ [] → behind0 q (drop i line) ≡ drop j line → j ≤ length line → n ≤ j → FirstRead line before out j n
-  done j a b h l = record {
-    behind = sym b ∙ r .behind;
-    counts = omega (arith, r .counts, ap length a);
-    stores = rw a at (r .stores);
-    within = h;
-    few = l;
-  }
+      let some : 1 ≤ length (drop i line) = rw e (omega arith) in
+      rw add-zero at (still.goes r {q′ = not q} 1 [] (rw e (toggled q (drop (i + 1) line))) some (omega arith) refl)
 
   -- a blank outside quotes ends it: what no run takes and is no quote mark
-  pub stops : i < length line → (getD line i 0 ≡ 34 → ⊥) → startsWith (isPlain false q) (drop i line) ≡ false → FirstRead line before out (i + 1) n
-  unfolding argument0 behind0 startsWith
-  stops h u k =
-      let n : isQuote (getD line i 0) ≡ false = ne-eqb _ _ u in
-      let e : isEnd q (getD line i 0) ≡ true = flipped _ (rw (at line i h, kept-is, n) at k) in
-      done (i + 1) (rw (at line i h, n, e)) (rw (at line i h, n, e)) (omega arith) (omega (arith, r .few))
-    where
-      flipped : (b : Bool) → flip b ≡ false → b ≡ true
-      flipped true z = refl
-      flipped false z = absurd (never (sym z))
+  pub stops : i < length line → (getD line i 0 ≡ 34 → ⊥) → startsWith (isKept q) (drop i line) ≡ false → OneRead (first false line) line before out (i + 1) n
+  unfolding startsWith
+  stops h u k = still.stops r h (ended q _ _ (ne-eqb _ _ u) (rw (at line i h) at k))
 
   -- the end of the line ends it
-  pub finishes : length line ≤ i → FirstRead line before out i n
+  pub finishes : length line ≤ i → OneRead (first false line) line before out i n
   unfolding argument0 behind0
-  finishes h = done i (rw (drop-of-length-le line h)) (rw (drop-of-length-le line h)) (r .within) (r .few)
+  finishes h = still.finishes r h refl

@@ -1,8 +1,7 @@
 pub mod Run
-pub mod Later
-pub mod Piece
-pub mod Turn
+pub mod Next
+pub mod Still
 pub mod First
+pub mod Step
 pub mod Left
 pub mod Outcome
-pub mod Span

@@ -20,7 +20,7 @@ use Rattle.laws.specs.Choice.{both-true}
 use Rattle.laws.specs.Extent.{read-extent}
 use Rattle.laws.specs.Span.{spans-length}
 use Rattle.laws.specs.Store.{sets-out, sets-front}
-use Rattle.reading.specs.Part.{Laid, lineArguments}
+use Rattle.reading.specs.Laid.{Laid, lineArguments}
 use Rattle.reading.specs.House.{Housed, housed, sure}
 
 -- ---- the line

@@ -9,10 +9,10 @@ use lib.ListN.{length, getD, take, drop, length-drop}
 use lib.Seq.{drop-cons, drop-drop}
 use lib.Dec.{eqb}
 use borrow.Author.Tests.{eqb-true}
-use Rattle.rules.specs.Choice.{pick, either, both, flip}
+use Rattle.rules.specs.Choice.{pick, flip}
 use Rattle.laws.specs.Scan.{isOneOf, before, leading, leading-in, leading-same}
 use Rattle.laws.specs.Store.{part-is}
-use Rattle.reading.specs.Run.{isPlain, startsWith}
+use Rattle.reading.specs.Run.{isEnd, isKept, isPlain, startsWith}
 
 -- no test both holds and fails
 pub never : false ≡ true → ⊥
@@ -83,24 +83,32 @@ unfolding startsWith
 starts-none p [] h = refl
 starts-none p (x ∷ xs) h = absurd (omega arith)
 
--- ---- the units that end a plain run
+-- ---- the units that end a run
 
--- a unit is none of the four that are looked for exactly if it is taken as it is
-plain-is : (slashes q : Bool) (x : ℕ) → flip (isOneOf 34 (pick slashes 92 34) (pick q 34 32) (pick q 34 9) x) ≡ isPlain slashes q x
-plain-is slashes q x = go slashes q (eqb x 34) (eqb x 92) refl refl
+-- a unit is none of the four that are looked for exactly if it is taken as it is in argument 0
+kept-is : (q : Bool) (x : ℕ) → flip (isOneOf 34 34 (pick q 34 32) (pick q 34 9) x) ≡ isKept q x
+kept-is q x = go q (eqb x 34) refl
   where
-    go : (s q a b : Bool) → eqb x 34 ≡ a → eqb x 92 ≡ b
-        → flip (isOneOf 34 (pick s 92 34) (pick q 34 32) (pick q 34 9) x) ≡ pick a false (pick b (flip s) (flip (both (flip q) (either (eqb x 32) (eqb x 9)))))
-    go s q true b e f = rw e
-    go true q false true e f = rw (e, f)
-    go false true false true e f = rw e
-    go false false false true e f = rw (eqb-true x 92 f)
-    go true true false false e f = rw (e, f)
-    go true false false false e f = rw (e, f)
-    go false true false false e f = rw e
-    go false false false false e f = rw e
+    go : (q a : Bool) → eqb x 34 ≡ a → flip (isOneOf 34 34 (pick q 34 32) (pick q 34 9) x) ≡ pick a false (flip (isEnd q x))
+    go q true e = rw e
+    go true false e = rw e
+    go false false e = rw e
+
+-- or in a later argument
+plain-is : (q : Bool) (x : ℕ) → flip (isOneOf 34 92 (pick q 34 32) (pick q 34 9) x) ≡ isPlain q x
+plain-is q x = go q (eqb x 34) (eqb x 92) refl refl
+  where
+    go : (q a b : Bool) → eqb x 34 ≡ a → eqb x 92 ≡ b
+        → flip (isOneOf 34 92 (pick q 34 32) (pick q 34 9) x) ≡ pick a false (pick b false (flip (isEnd q x)))
+    go q true b e f = rw e
+    go q false true e f = rw (e, f)
+    go true false false e f = rw (e, f)
+    go false false false e f = rw (e, f)
 
 -- so the index of the first of the four is the length of the run
-pub run-is : (slashes q : Bool) (xs : List ℕ) {b c d r : ℕ} → b ≡ pick slashes 92 34 → c ≡ pick q 34 32 → d ≡ pick q 34 9 → r ≡ before (isOneOf 34 b c d) xs
-    → r ≡ leading (isPlain slashes q) xs
-run-is slashes q xs eb ec ed e = rw (eb, ec, ed) at e ∙ leading-same _ _ (plain-is slashes q) xs
+module _ (q : Bool) (xs : List ℕ) {c d r : ℕ} (ec : c ≡ pick q 34 32) (ed : d ≡ pick q 34 9) where
+  pub kept-found : r ≡ before (isOneOf 34 34 c d) xs → r ≡ leading (isKept q) xs
+  kept-found e = rw (ec, ed) at e ∙ leading-same _ _ (kept-is q) xs
+
+  pub plain-found : r ≡ before (isOneOf 34 92 c d) xs → r ≡ leading (isPlain q) xs
+  plain-found e = rw (ec, ed) at e ∙ leading-same _ _ (plain-is q) xs

@@ -1,3 +1,6 @@
 pub mod Run
-pub mod Part
+pub mod Next
+pub mod Step
+pub mod Span
+pub mod Laid
 pub mod House

@@ -9,10 +9,13 @@ use Rattle.rules.specs.Unit.{isQuote, isBackslash, isBlank}
 abbrev pub isEnd : Bool → ℕ → Bool
 isEnd q x = both (flip q) (isBlank x)
 
--- The unit is taken as it is: a quote mark never, a backslash where backslashes mean nothing (in argument 0), any other unit unless it ends the
--- argument.
-abbrev pub isPlain : Bool → Bool → ℕ → Bool
-isPlain slashes q x = pick (isQuote x) false (pick (isBackslash x) (flip slashes) (flip (isEnd q x)))
+-- in argument 0 every unit is taken as it is but a quote mark and the blank that ends it
+abbrev pub isKept : Bool → ℕ → Bool
+isKept q x = pick (isQuote x) false (flip (isEnd q x))
+
+-- in a later argument every unit but a quote mark, a backslash and the blank that ends it
+abbrev pub isPlain : Bool → ℕ → Bool
+isPlain q x = pick (isQuote x) false (pick (isBackslash x) false (flip (isEnd q x)))
 
 -- the first unit passes the test; an empty list has none
 unfoldable pub startsWith : (ℕ → Bool) → List ℕ → Bool

@@ -7,7 +7,7 @@ ghost use lib.Seq.{sets};
 ghost use Rattle.rules.specs.Unit.{isBlank};
 ghost use Rattle.rules.specs.Reading.{arguments};
 ghost use Rattle.laws.specs.Scan.{leading};
-ghost use Rattle.reading.specs.Part.{Laid, lineArguments};
+ghost use Rattle.reading.specs.Laid.{Laid, lineArguments};
 use super::one::read_first;
 use super::one::read_later;
 use units::parts::smaller;
@@ -22,7 +22,7 @@ pub struct Sizes {
 }
 
 // Start and length of an argument at its place of the span table, as far as the table has places.
-pub fn put_span(spans: &mut [u32], i: usize, start: usize, count: usize)
+fn put_span(spans: &mut [u32], i: usize, start: usize, count: usize)
     requires { ⌜ (i < 4294967296) × (start < 4294967296) × (count < 4294967296) ⌝ }
     ensures { λ _. ⌜ now (spans .exit) ≡ sets (now (spans .entry)) (2 * i) (start ∷ count ∷ []) ⌝ }
 {
@@ -31,7 +31,7 @@ pub fn put_span(spans: &mut [u32], i: usize, start: usize, count: usize)
 }
 
 // The place in a line behind the blanks from a place on.
-pub fn skip_blanks(line: &[u16], i: usize) -> usize
+fn skip_blanks(line: &[u16], i: usize) -> usize
     requires { ⌜ i ≤ length (now line) ⌝ }
     ensures { λ r. ⌜ (r ≡ i + leading isBlank (drop i (now (line .entry)))) × (r ≤ length (now (line .entry))) ⌝ }
 {
@@ -39,7 +39,7 @@ pub fn skip_blanks(line: &[u16], i: usize) -> usize
 }
 
 // Lays out the arguments of a line that is not empty, as far as there is room. Each later one is written into the unused rest of the text.
-pub fn lay(line: &[u16], text: &mut [u16], spans: &mut [u32]) -> Sizes
+fn lay(line: &[u16], text: &mut [u16], spans: &mut [u32]) -> Sizes
     requires { ⌜ length (now line) < 2147483648 ⌝ }
     ensures { λ r. ⌜ Laid (arguments (now (line .entry))) (now (text .entry)) (now (text .exit)) (now (spans .entry)) (now (spans .exit)) (r .count) (r .units) ⌝ }
 {

@@ -1,8 +1,8 @@
 // Reading a line: its arguments' texts into lent units and their spans into a lent table; and the part of one argument.
 mod laying;
 mod one;
-mod pieces;
 mod runs;
+mod steps;
 
 ghost use mathlib.Core.Path.{_≡_};
 ghost use Prim.Native.Nat.{_≤_};
@@ -11,8 +11,9 @@ ghost use lib.Dec.{eqb};
 ghost use Rattle.rules.specs.Choice.{pick};
 ghost use Rattle.rules.specs.Reading.{readLimit, reading, argumentPart};
 ghost use Rattle.rules.specs.Answer.{Read};
-ghost use Rattle.reading.specs.Part.{lineArguments};
+ghost use Rattle.reading.specs.Laid.{lineArguments};
 ghost use Rattle.reading.specs.House.{Short, Housed, housed, sure};
+ghost use Rattle.reading.specs.Span.{argumentSpan};
 use laying::lay_line;
 use rules::Parsed;
 use rules::Refusal;
@@ -63,7 +64,7 @@ fn read_measured(line: &[u16], exe_name: &[u16], text: &mut [u16], spans: &mut [
     let none = 0;
     let need = lay_line(line, exe_name, &mut text[..none], &mut spans[..none]);
     if places < need.count {
-        return Parsed::Refused(Refusal::Spans);
+        return Parsed::Refused(Refusal::Places);
     }
     if text.len() < need.units {
         return Parsed::Refused(Refusal::Room);
@@ -91,21 +92,33 @@ pub fn parse_lp_cmd_line(
     read_measured(&units[..n], exe_name, text, spans)
 }
 
-// The part of the caller's text that a span names; an empty part where the table has no such place or the span reaches past the text.
+// Where a part lies in the caller's text.
+pub struct Span {
+    pub start: usize,
+    pub len: usize,
+}
+
+// Start and length of one argument's part in the caller's text; 0 and 0 where the table has no such place or its span reaches past the text.
+pub fn span_of(text: &[u16], spans: &[u32], index: usize) -> Span
+    ensures { λ r. ⌜ r ≡ argumentSpan (now (text .entry)) (now (spans .entry)) index ⌝ }
+{
+    if spans.len() / 2 <= index {
+        return Span { start: 0, len: 0 };
+    }
+    let start = spans[2 * index] as usize;
+    let len = spans[2 * index + 1] as usize;
+    if text.len() < start + len {
+        return Span { start: 0, len: 0 };
+    }
+    Span { start, len }
+}
+
+// The part of the caller's text itself that an argument is, or an empty one.
 pub fn argument<'a>(text: &'a [u16], spans: &[u32], index: usize) -> &'a [u16]
     ensures { λ r. ⌜ now r ≡ argumentPart (now (text .entry)) (now (spans .entry)) index ⌝ }
 {
-    if spans.len() / 2 <= index {
-        return &text[..0];
-    }
-    let start = spans[2 * index] as usize;
-    let count = spans[2 * index + 1] as usize;
-    if text.len() < start {
-        return &text[..0];
-    }
-    if text.len() - start < count {
-        return &text[..0];
-    }
-    let end = start + count;
+    let span = span_of(text, spans, index);
+    let start = span.start;
+    let end = start + span.len;
     &text[start..end]
 }

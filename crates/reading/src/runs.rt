@@ -3,7 +3,7 @@ ghost use mathlib.Core.Path.{_≡_};
 ghost use Rattle.rules.specs.Choice.{pick};
 ghost use Rattle.rules.specs.Unit.{isQuote};
 ghost use Rattle.laws.specs.Scan.{leading};
-ghost use Rattle.reading.specs.Run.{isEnd, isPlain, startsWith};
+ghost use Rattle.reading.specs.Run.{isEnd, isKept, isPlain, startsWith};
 use units::scans::find_any;
 use units::scans::is_blank;
 
@@ -17,25 +17,29 @@ pub fn is_end(unit: u16, quoted: bool) -> bool
     is_blank(unit)
 }
 
-// One of two units.
-fn chosen(first: bool, a: u16, b: u16) -> u16
-    ensures { λ r. ⌜ r ≡ pick first a b ⌝ }
+// A unit that ends a run outside quotes; inside them the quote mark once more, which ends every run.
+fn outside_quotes(quoted: bool, unit: u16) -> u16
+    ensures { λ r. ⌜ r ≡ pick quoted 34 unit ⌝ }
 {
-    if first { a } else { b }
+    if quoted { 34 } else { unit }
 }
 
-// How many units that are taken as they are the rest of a line starts with: up to a quote mark, outside quotes a blank and, where backslashes mean
-// something, a backslash.
-pub fn plain_run(rest: &[u16], quoted: bool, slashes: bool) -> usize
-    ensures { λ r. ⌜ r ≡ leading (isPlain slashes quoted) (now (rest .entry)) ⌝ }
+// How many units of argument 0 that are taken as they are the rest of a line starts with: up to a quote mark and, outside quotes, a blank.
+pub fn kept_run(rest: &[u16], quoted: bool) -> usize
+    ensures { λ r. ⌜ r ≡ leading (isKept quoted) (now (rest .entry)) ⌝ }
 {
-    find_any(
-        rest,
-        34,
-        chosen(slashes, 92, 34),
-        chosen(quoted, 34, 32),
-        chosen(quoted, 34, 9),
-    )
+    let space = outside_quotes(quoted, 32);
+    let tab = outside_quotes(quoted, 9);
+    find_any(rest, 34, 34, space, tab)
+}
+
+// The same of a later argument, where backslashes mean something: up to a quote mark, a backslash and, outside quotes, a blank.
+pub fn plain_run(rest: &[u16], quoted: bool) -> usize
+    ensures { λ r. ⌜ r ≡ leading (isPlain quoted) (now (rest .entry)) ⌝ }
+{
+    let space = outside_quotes(quoted, 32);
+    let tab = outside_quotes(quoted, 9);
+    find_any(rest, 34, 92, space, tab)
 }
 
 // Whether the rest of a line starts with a quote mark.

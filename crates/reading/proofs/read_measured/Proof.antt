@@ -4,7 +4,7 @@ use native.Mathlib.Omega.{arith}
 use mathlib.Core.Path.{ap, refl}
 use lib.ListN.{length}
 use Rattle.reading.proofs.Outcome.{no-places, no-room, refuses, spans-kept, text-kept}
-use Rattle.reading.specs.Part.{lineArguments}
+use Rattle.reading.specs.Laid.{lineArguments}
 use Rattle.reading.proofs.read_measured.Statement.{statement}
 use Rattle.reading.proofs.read_measured.Tie as tie
 

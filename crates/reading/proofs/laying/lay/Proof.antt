@@ -1,12 +1,10 @@
 -- `reading::laying::lay` meets its contract. Assumes nothing.
 use borrow.Author.Needs.{needs}
-use mathlib.Core.Path.{_∙_, ap}
-use Prim.Native.Nat.{_-_}
+use mathlib.Core.Path.{_∙_}
+use Prim.Native.Nat.{_-_, _<_}
 use native.Mathlib.Omega.{arith}
-use lib.ListN.{length, length-drop}
-use Rattle.rules.specs.Unit.{isBlank}
+use lib.ListN.{drop, length, length-drop}
 use Rattle.laws.specs.Store.{back-is, part-is}
-use Rattle.reading.specs.Run.{startsWith}
 use Rattle.reading.proofs.Left as Y
 use Rattle.reading.proofs.Left.{Laying}
 use Rattle.reading.proofs.laying.lay.Statement.{statement}
@@ -60,12 +58,7 @@ part-read-later-end-2 : tie.Need-part-read-later-end-2 Inv-loop μ-loop
 part-read-later-end-2 c = search needs
 
 read-later-requires : tie.Need-read-later-requires Inv-loop μ-loop
-read-later-requires c κs =
-    let at-skip-blanks = c .before .before .before .before .before in
-    let at-read-first = at-skip-blanks .before .before .before .before .before .before .before in
-    let line = at-read-first .before .before .before .before .before .args .line .now in
-    let l = c .before .before .before .before .loop in
-    (rw (part-is (l .i) line, length-drop) (omega arith), ap (startsWith isBlank) (part-is (l .i) line) ∙ l .inv .clear)
+read-later-requires c κs = search needs
 
 put-span-requires-2 : tie.Need-put-span-requires-2 Inv-loop μ-loop
 put-span-requires-2 c κs = search needs
@@ -83,7 +76,12 @@ skip-blanks-requires-2 : tie.Need-skip-blanks-requires-2 Inv-loop μ-loop
 skip-blanks-requires-2 c κs = search needs
 
 loop-less : tie.Need-loop-less Inv-loop μ-loop
-loop-less c = search needs
+loop-less c =
+    let m = c .before .before .before .before .before .before .before .before .read-later in
+    let l = c .before .before .before .before .before .before .before .before .before .before .before .before .before .loop in
+    let line = c .before .before .before .before .before .before .before .before .before .before .before .before .before .before .before .before .before .before .before .before .before .before .before .before .before .before .args .line .now in
+    let some : 0 < length (drop (l .i) line) = rw length-drop (omega arith) in
+    omega (arith, (rw (part-is (l .i) line) at (m .ensures)) .some some, c .skip-blanks2 .ensures)
 
 loop-again : tie.Need-loop-again Inv-loop μ-loop
 loop-again c =
@@ -93,7 +91,7 @@ loop-again c =
     let smaller = at-put-span2 .before .before .before .before .before .before .before .smaller in
     let took = at-put-span2 .before .before .before .before .read-later in
     let from = smaller .result in
-    Y.turn (l .inv) from _ (took .ensures) (part-is (l .i) _) (part-is from (l .text)) (back-is from (l .text) _) (smaller .ensures)
+    Y.turn (l .inv) from _ (at-smaller .before .loop-test .taken) (rw (part-is (l .i) _) at (took .ensures)) (part-is from (l .text)) (back-is from (l .text) _) (smaller .ensures)
     (c .before .before .before .before .put-span2 .ensures) (c .skip-blanks2 .ensures .0) (c .skip-blanks2 .ensures .1)
 
 same-length : tie.Need-same-length Inv-loop μ-loop

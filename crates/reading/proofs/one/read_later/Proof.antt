@@ -1,30 +1,37 @@
 -- `reading::one::read_later` meets its contract. Assumes nothing.
 use borrow.Author.Needs.{needs}
-use mathlib.Core.Path.{_∙_, sym}
-use Prim.Native.Nat.{_+_, _-_, _≤_}
 use native.Mathlib.Omega.{arith}
-use lib.ListN.{length, length-drop}
-use Rattle.reading.proofs.Turn as T
-use Rattle.reading.proofs.Turn.{Reading}
+use mathlib.Core.Path.{_∙_, sym}
+use Prim.Native.Nat.{_-_}
+use lib.ListN.{drop, getD, length, length-drop}
+use Rattle.reading.specs.Next.{further}
+use Rattle.reading.specs.Step.{stepAt}
+use Rattle.reading.proofs.Next.{ends-line, stops}
+use Rattle.reading.proofs.Step.{Steps, steps-at, turn}
+use Rattle.reading.proofs.Still as still
+use Rattle.reading.proofs.Still.{Still}
 use Rattle.reading.proofs.one.read_later.Statement.{statement}
 use Rattle.reading.proofs.one.read_later.Tie as tie
 
 abbrev Inv-loop : tie.InvT-loop
-Inv-loop rest out₀ i₀ n₀ quoted₀ out i n quoted = Reading rest out₀ out i n quoted
+Inv-loop rest out₀ here₀ out here = Still further rest out₀ out (here .used) (here .units) (here .quoted)
 
 abbrev μ-loop : tie.MeasureT-loop
-μ-loop rest out₀ i₀ n₀ quoted₀ out i n quoted = length rest - i
+μ-loop rest out₀ here₀ out here = length rest - here .used
 
--- the turn that a piece belongs to
-abbrev turn : tie.After-read-piece Inv-loop μ-loop → tie.At-loop Inv-loop μ-loop
-turn c = c .before .before .before .before .before .before
+-- the turn that a step belongs to
+abbrev in-turn : tie.After-read-step Inv-loop μ-loop → tie.At-loop Inv-loop μ-loop
+in-turn c = c .before .before .before .before .before .before .before
 
--- a piece lies in the rest
-read-in : (c : tie.After-read-piece Inv-loop μ-loop) → turn c .loop .i + c .read-piece .result .used ≤ length (turn c .before .before .before .args .rest .now)
-read-in c = omega (arith, c .read-piece .ensures .within, length-drop (turn c .loop .i) (turn c .before .before .before .args .rest .now))
+-- what the step is
+taken : (c : tie.After-read-step Inv-loop μ-loop)
+    → (let q = in-turn c .loop .here .quoted in let here = drop (in-turn c .loop .here .used) (in-turn c .before .before .before .args .rest .now) in Steps q here (stepAt q here))
+taken c =
+    let l = in-turn c .loop in
+    steps-at (l .here .quoted) _ (l .here .used) (c .before .before .before .before .before .if1 .taken) (sym (c .before .before .before .is-end .ensures) ∙ c .before .before .if2 .left)
 
 loop-holds : tie.Need-loop-holds Inv-loop μ-loop
-loop-holds c = T.starts _ (c .before .before .pre .0) (c .before .before .pre .1)
+loop-holds c = still.starts _ _
 
 mul-is-end : tie.Need-mul-is-end Inv-loop μ-loop
 mul-is-end c = search needs
@@ -35,38 +42,34 @@ shared-slice-read-is-end c = search needs
 is-end-requires : tie.Need-is-end-requires Inv-loop μ-loop
 is-end-requires c κs = search needs
 
-add-t12 : tie.Need-add-t12 Inv-loop μ-loop
-add-t12 c = search needs
+add-t10 : tie.Need-add-t10 Inv-loop μ-loop
+add-t10 c = search needs
 
 same-length : tie.Need-same-length Inv-loop μ-loop
-same-length c = T.same-length (c .before .before .before .before .loop .inv)
+same-length c = still.same-length (c .before .before .before .before .before .loop .inv)
 
 returns : tie.Need-returns Inv-loop μ-loop
-returns c = T.stops (c .before .before .before .before .loop .inv) (c .before .before .before .loop-test .taken) (sym (c .before .is-end .ensures) ∙ c .if1 .taken)
+returns c =
+    let h = c .before .before .before .before .before .loop .here in
+    still.stops (c .before .before .before .before .before .loop .inv) (c .before .before .before .if1 .taken) (stops (h .quoted) (getD (c .before .before .before .before .before .before .before .before .args .rest .now) (h .used) 0) _ (sym (c .before .is-end .ensures) ∙ c .if2 .taken))
 
-read-piece-requires : tie.Need-read-piece-requires Inv-loop μ-loop
-read-piece-requires c κs = (c .before .before .before .before .loop-test .taken, c .before .before .before .before .before .loop .inv .few, sym (c .before .before .is-end .ensures) ∙ c .before .if1 .left)
-
-add-i : tie.Need-add-i Inv-loop μ-loop
-add-i c = omega (arith, read-in (c .before .before .before))
-
-add-n : tie.Need-add-n Inv-loop μ-loop
-add-n c = omega (arith, read-in (c .before .before .before .before), c .before .before .before .before .read-piece .ensures .few)
+read-step-requires : tie.Need-read-step-requires Inv-loop μ-loop
+read-step-requires c κs = (c .before .before .before .before .if1 .taken, c .before .before .before .before .before .before .loop .inv .few)
 
 loop-less : tie.Need-loop-less Inv-loop μ-loop
-loop-less c = omega (arith, read-in (c .before .before .before .before), c .before .before .before .before .read-piece .ensures .some)
+loop-less c =
+    let l = c .before .before .before .before .before .before .before .before .before .loop in
+    let s = taken (c .before .before) in
+    omega (arith, s .some, s .within, length-drop (l .here .used) (c .before .before .before .before .before .before .before .before .before .before .before .before .args .rest .now), c .before .before .read-step .ensures .uses)
 
 loop-again : tie.Need-loop-again Inv-loop μ-loop
-loop-again c =
-    let at-is-end = c .before .before .before .before .before .before .before in
-    let l = at-is-end .before .before .before .loop in
-    T.turn (l .inv) (c .before .before .before .before .read-piece .ensures)
+loop-again c = turn _ (c .before .before .before .before .before .before .before .before .before .loop .inv) (taken (c .before .before)) (c .before .before .read-step .ensures)
 
 same-length-2 : tie.Need-same-length-2 Inv-loop μ-loop
-same-length-2 c = T.same-length (c .before .loop .inv)
+same-length-2 c = still.same-length (c .before .before .loop .inv)
 
 returns-2 : tie.Need-returns-2 Inv-loop μ-loop
-returns-2 c = T.finishes _ (c .before .before .before .before .pre .0) (c .before .loop .inv) (c .loop-test .left)
+returns-2 c = still.finishes (c .before .before .loop .inv) (c .if1 .left) (ends-line (c .before .before .loop .here .quoted))
 
 pub read-later-spec : {M : Type 1} → statement M
 read-later-spec =
@@ -78,12 +81,10 @@ read-later-spec =
     mul-is-end
     shared-slice-read-is-end
     is-end-requires
-    add-t12
+    add-t10
     same-length
     returns
-    read-piece-requires
-    add-i
-    add-n
+    read-step-requires
     loop-less
     loop-again
     same-length-2

@@ -1,16 +1,13 @@
--- `reading::pieces::read_piece` meets its contract. Assumes nothing.
+-- `reading::steps::read_step` meets its contract. Assumes nothing.
 use borrow.Author.Needs.{needs}
-use mathlib.Core.Path.{_∙_, ap}
-use Prim.Native.Nat.{_<_}
 use native.Mathlib.Omega.{arith}
+use mathlib.Core.Path.{_∙_, ap}
 use lib.Seq.{sets}
 use Rattle.reading.specs.Run.{isPlain}
-use Rattle.reading.proofs.Run.{RunAt, part-run, run-at, run-some}
-use Rattle.reading.proofs.Piece.{plain-is}
-use Rattle.reading.proofs.Piece as P
-use mathlib.Core.Bool.{true}
-use Rattle.reading.proofs.pieces.read_piece.Statement.{statement}
-use Rattle.reading.proofs.pieces.read_piece.Tie as tie
+use Rattle.reading.proofs.Run.{RunAt, part-run, run-at}
+use Rattle.reading.proofs.Step.{at-mark, at-slash, plain}
+use Rattle.reading.proofs.steps.read_step.Statement.{statement}
+use Rattle.reading.proofs.steps.read_step.Tie as tie
 
 -- where the function begins
 abbrev start : tie.After-plain-run → tie.Start
@@ -18,18 +15,11 @@ start c =
     let at-if1 = c .before .before .before .before in
     at-if1 .before .before .before .before
 
--- the run of plain units at i
-run-is : (c : tie.After-plain-run) → RunAt (isPlain true (start c .args .quoted)) (start c .args .rest .now) (start c .args .i) (c .plain-run .result)
+-- the run of plain units at the point
+run-is : (c : tie.After-plain-run) → RunAt (isPlain (start c .args .here .quoted)) (start c .args .rest .now) (start c .args .here .used) (c .plain-run .result)
 run-is c =
     let a = start c .args in
-    run-at (isPlain true (a .quoted)) (a .rest .now) (a .i) (omega (arith, start c .pre)) (c .plain-run .ensures)
-
--- it has one at least
-some : (c : tie.After-plain-run) → 0 < c .plain-run .result
-some c =
-    let a = start c .args in
-    let plain = plain-is (a .quoted) _ (c .before .before .before .before .if1 .left) (c .before .before .if2 .left) (start c .pre .2) in
-    run-some (isPlain true (a .quoted)) (a .rest .now) (a .i) (start c .pre .0) plain (run-is c .0)
+    run-at (isPlain (a .here .quoted)) (a .rest .now) (a .here .used) (omega (arith, start c .pre)) (c .plain-run .ensures)
 
 mul-if1 : tie.Need-mul-if1
 mul-if1 c = search needs
@@ -44,7 +34,7 @@ same-length : tie.Need-same-length
 same-length c = search needs
 
 returns : tie.Need-returns
-returns c = search needs
+returns c = at-mark _ _ (c .before .before .before .before .before .before .before .before .pre .0) (c .before .before .before .before .if1 .taken) (c .before .before .read-mark .ensures)
 
 mul-if2 : tie.Need-mul-if2
 mul-if2 c = search needs
@@ -59,7 +49,7 @@ same-length-2 : tie.Need-same-length-2
 same-length-2 c = search needs
 
 returns-2 : tie.Need-returns-2
-returns-2 c = search needs
+returns-2 c = at-slash _ _ (c .before .before .before .before .before .before .before .before .before .before .pre .0) (c .before .before .before .before .if2 .taken) (c .before .before .read-slashes .ensures)
 
 mul-plain-run : tie.Need-mul-plain-run
 mul-plain-run c = search needs
@@ -94,17 +84,20 @@ part-copy-run-end c = omega (arith, run-is (c .before))
 copy-run-requires : tie.Need-copy-run-requires
 copy-run-requires c κs = search needs
 
+add-t7 : tie.Need-add-t7
+add-t7 c = omega (arith, run-is (c .before .before .before .before .before .before), c .before .before .before .before .before .before .before .before .before .before .before .before .before .before .pre)
+
 same-length-3 : tie.Need-same-length-3
 same-length-3 c = search needs
 
 returns-3 : tie.Need-returns-3
 returns-3 c =
-    let b = c .before .before .before .before .before in
+    let b = c .before .before .before .before .before .before in
     let a = start b .args in
-    P.plain _ _ _ _ (run-is b .0) (some b) (c .before .before .copy-run .ensures ∙ ap (sets (a .out .now) (a .n)) (part-run (a .rest .now) (a .i) (b .plain-run .result)))
+    plain (a .rest .now) (a .here) (start b .pre .0) _ (c .before .before .before .before .before .before .before .before .before .before .if1 .left) (c .before .before .before .before .before .before .before .before .if2 .left) (run-is b .0) (c .before .before .before .copy-run .ensures ∙ ap (sets (a .out .now) (a .here .units)) (part-run (a .rest .now) (a .here .used) (b .plain-run .result)))
 
-pub read-piece-spec : {M : Type 1} → statement M
-read-piece-spec =
+pub read-step-spec : {M : Type 1} → statement M
+read-step-spec =
     tie.close
     (tie.spec
     mul-if1
@@ -128,5 +121,6 @@ read-piece-spec =
     part-copy-run-start
     part-copy-run-end
     copy-run-requires
+    add-t7
     same-length-3
     returns-3)
