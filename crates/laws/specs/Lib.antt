@@ -21,3 +21,4 @@ pub mod Span
 pub mod Told
 pub mod Parts
 pub mod Records
+pub mod Run

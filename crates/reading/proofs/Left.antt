@@ -13,11 +13,10 @@ use Rattle.rules.specs.Unit.{isBlank}
 use Rattle.rules.specs.Reading.{later, between, argument0, behind0, arguments, joined, spansFrom}
 use Rattle.laws.specs.Scan.{leading}
 use Rattle.laws.specs.Store.{sets-append, sets-out, sets-rest}
-use Rattle.reading.specs.Run.{startsWith}
+use Rattle.laws.specs.Run.{startsWith, stops-at}
 use Rattle.reading.specs.Laid.{Laid}
-use Rattle.reading.proofs.Run.{stops-at}
-use Rattle.reading.specs.Next.{first, further, OneRead}
-use Rattle.reading.proofs.Next as N
+use Rattle.arguments.specs.Next.{first, further, OneRead}
+use Rattle.arguments.specs.Split as N
 
 -- the later arguments that are still to be read behind i units of a line
 abbrev pub left : List ℕ → ℕ → List (List ℕ)

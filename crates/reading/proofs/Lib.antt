@@ -1,7 +1,2 @@
-pub mod Run
-pub mod Next
-pub mod Still
-pub mod First
-pub mod Step
 pub mod Left
 pub mod Outcome

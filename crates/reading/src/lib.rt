@@ -1,8 +1,5 @@
 // Reading a line: its arguments' texts into lent units and their spans into a lent table; and the part of one argument.
 mod laying;
-mod one;
-mod runs;
-mod steps;
 
 ghost use mathlib.Core.Path.{_≡_};
 ghost use Prim.Native.Nat.{_≤_};

@@ -4,7 +4,7 @@ use mathlib.Core.Path.{ap}
 use Prim.Native.Nat.{_+_, ℕ}
 use native.Mathlib.Omega.{arith}
 use Rattle.rules.specs.Unit.{isBlank}
-use Rattle.reading.proofs.Run.{RunAt, run-at}
+use Rattle.laws.specs.Run.{RunAt, run-at}
 use Rattle.reading.proofs.laying.skip_blanks.Statement.{statement}
 use Rattle.reading.proofs.laying.skip_blanks.Tie as tie
 

@@ -1,0 +1,5 @@
+pub mod Run
+pub mod Next
+pub mod Still
+pub mod First
+pub mod Step

@@ -1,0 +1,4 @@
+pub mod Run
+pub mod Next
+pub mod Split
+pub mod Step
