@@ -1,9 +1,13 @@
 -- The units of entries and of a block, counted and stored one entry after another. Assumes nothing.
 use Prim.Native.Nat.{ℕ, _+_, _≤_, _<_, zero-le}
+use borrow.Author.Tests.{lt-ltb, le-ltb, ltb-true, ltb-false}
+use mathlib.Core.Bool.{Bool, true, false}
+use lib.Dec.{ltb}
+use Rattle.rules.specs.Choice.{pick}
 use native.Mathlib.Nat.{zero-add}
 use native.Mathlib.Numerals.{add-one}
 use native.Mathlib.Omega.{arith}
-use mathlib.Core.Path.{_≡_, refl, sym, _∙_}
+use mathlib.Core.Path.{_≡_, refl, sym, ap, _∙_}
 use mathlib.Core.List.{List, [], _∷_, _++_, append-assoc}
 use lib.ListN.{length, set, length-append}
 use lib.Seq.{sets}
@@ -11,7 +15,7 @@ use Rattle.laws.specs.Store.{sets-append}
 use Rattle.rules.specs.Unit.{equals, nul}
 use Rattle.rules.specs.Record.{Entry}
 use Rattle.rules.specs.Block.{entryUnits, block}
-use Rattle.blocks.specs.Entries.{oneEntry, Written, Counted}
+use Rattle.blocks.specs.Entries.{oneEntry, Written, untilPast, closing, blockUntilPast}
 
 -- ---- one entry
 
@@ -29,18 +33,13 @@ entry-written e at {key} {value} {o₀} k v h₁ h₂ h₃ h₄ =
       stores = rw (h₄, h₃, h₂, h₁, sets-append o₀ at front (nul ∷ []), n, sets-append o₀ at key (equals ∷ value), add-one (at + length key));
     })
 
--- the first entry's units, then those of the others
-units-next : (e : Entry) (more : List Entry) → entryUnits (e ∷ more) ≡ oneEntry e ++ entryUnits more
-unfolding entryUnits
-units-next e more = sym (append-assoc (e .key ++ equals ∷ e .value) (nul ∷ []) (entryUnits more))
-
 -- ---- all entries
 
 -- the units of the rest are still to be counted and stored
 pub record Putting (limit : ℕ) (all rest : List Entry) (before out : List ℕ) (to : ℕ) : Type 0 where
   pub below : to ≤ limit
-  pub counts : to + length (entryUnits rest) ≡ length (entryUnits all)
-  pub stores : sets out to (entryUnits rest) ≡ sets before 0 (entryUnits all)
+  pub counts : to + length (untilPast limit to rest) ≡ length (untilPast limit 0 all)
+  pub stores : sets out to (untilPast limit to rest) ≡ sets before 0 (untilPast limit 0 all)
   pub same : length out ≡ length before
 
 -- at the start all are
@@ -49,83 +48,144 @@ none-put limit all out = record { below = zero-le; counts = zero-add _; stores =
 
 module _ {limit : ℕ} {all rest : List Entry} {before out : List ℕ} {to : ℕ} (putting : Putting limit all rest before out to) where
   -- nothing is left
-  pub all-put : rest ≡ [] → Counted limit (entryUnits all) before out to
-  unfolding entryUnits
-  all-put e =
-      let n = rw e at (putting .counts) in
-      record { place = λ h. omega arith; over = λ h. absurd (omega (arith, putting .below)); stores = λ h. rw e at (putting .stores) }
+  pub all-put : rest ≡ [] → Written 0 (untilPast limit 0 all) before out to
+  unfolding untilPast
+  all-put e = record { place = omega (arith, rw e at (putting .counts)); stores = rw e at (putting .stores) }
 
   module _ {e : Entry} {more : List Entry} {after : List ℕ} {next : ℕ} (split : rest ≡ e ∷ more) (written : Written to (oneEntry e) out after next) where
-    counted : next + length (entryUnits more) ≡ length (entryUnits all)
-    counted =
-        let n = rw (split, units-next e more, length-append (oneEntry e) (entryUnits more)) at (putting .counts) in
-        omega (arith, written .place)
-
     -- past the limit
-    pub too-many : limit < next → Counted limit (entryUnits all) before after next
+    pub too-many : limit < next → Written 0 (untilPast limit 0 all) before after next
+    unfolding untilPast
     too-many h =
-        record { place = λ l. absurd (omega arith); over = λ l. omega (arith, counted); stores = λ l. absurd (omega arith) }
+        let t : ltb limit (to + length (oneEntry e)) ≡ true = lt-ltb limit (to + length (oneEntry e)) (rw (written .place) at h) in
+        record {
+          place = omega (arith, rw (split, t) at (putting .counts), written .place);
+          stores = written .stores ∙ (rw (split, t) at (putting .stores));
+        }
 
     -- one entry more
     pub one-put : next ≤ limit → length after ≡ length out → Putting limit all more before after next
+    unfolding untilPast
     one-put h s =
+        let one = oneEntry e in
+        let others = untilPast limit (to + length one) more in
+        let t : ltb limit (to + length one) ≡ false = le-ltb limit (to + length one) (rw (written .place) at h) in
+        let n : to + length (one ++ others) ≡ length (untilPast limit 0 all) = rw (split, t) at (putting .counts) in
         record {
           below = h;
-          counts = counted;
-          stores =
-              rw (written .stores, written .place) (sym (sets-append out to (oneEntry e) (entryUnits more)) ∙ (rw (split, units-next e more) at (putting .stores)));
+          counts = rw (written .place) (omega (arith, n, length-append one others));
+          stores = rw (written .stores, written .place) (sym (sets-append out to one others) ∙ (rw (split, t) at (putting .stores)));
           same = s ∙ putting .same;
         }
 
 -- ---- the block
 
-exactly : {limit : ℕ} {whole before after : List ℕ} {r : ℕ} → r ≡ length whole → after ≡ sets before 0 whole → Counted limit whole before after r
-exactly n s = record { place = λ h. n; over = λ h. omega arith; stores = λ h. s }
-
-block-none : block [] ≡ nul ∷ nul ∷ []
-unfolding block
-block-none = refl
-
-block-some : (e : Entry) (more : List Entry) → block (e ∷ more) ≡ entryUnits (e ∷ more) ++ nul ∷ []
-unfolding block entryUnits
-block-some e more = refl
-
-units-none : entryUnits [] ≡ []
-unfolding entryUnits
-units-none = refl
-
 -- the units of an entry are some
-units-some : (e : Entry) (more : List Entry) → length (entryUnits (e ∷ more)) ≡ 0 → ⊥
-units-some e more h = omega (arith, simp (units-next, length-append) at h)
+entry-some : (e : Entry) → 0 < length (oneEntry e)
+entry-some e = rw length-append (omega arith)
 
-no-shorter : (entries : List Entry) → length (entryUnits entries) ≤ length (block entries)
-no-shorter [] = rw (units-none, block-none) (omega arith)
-no-shorter (e ∷ more) = rw (block-some e more, length-append) (omega arith)
+-- where there are no entries, no units are counted
+none-counted : (limit : ℕ) → untilPast limit 0 [] ≡ []
+unfolding untilPast
+none-counted limit = refl
 
-module _ (limit end : ℕ) (entries : List Entry) (before o₁ : List ℕ) (counted : Counted limit (entryUnits entries) before o₁ end) where
+-- where there are entries, some are
+units-some : (limit : ℕ) (e : Entry) (more : List Entry) → 0 < length (untilPast limit 0 (e ∷ more))
+unfolding untilPast
+units-some limit e more = go (ltb limit (0 + length (oneEntry e)))
+  where
+    go : (b : Bool) → 0 < length (pick b (oneEntry e) (oneEntry e ++ untilPast limit (0 + length (oneEntry e)) more))
+    go true = entry-some e
+    go false = rw length-append (omega (arith, entry-some e))
+
+module _ (limit end : ℕ) (entries : List Entry) {before o₁ : List ℕ} (put : Written 0 (untilPast limit 0 entries) before o₁ end) where
+  counted : end ≡ length (untilPast limit 0 entries)
+  counted = omega (arith, put .place)
+
   -- the entries alone are past the limit
-  pub block-past : limit < end → Counted limit (block entries) before o₁ end
-  block-past h =
-      record {
-        place = λ l. absurd (omega arith);
-        over = λ l. omega (arith, no-shorter entries, counted .over h);
-        stores = λ l. absurd (omega arith);
-      }
+  pub block-past : limit < end → Written 0 (blockUntilPast limit entries) before o₁ end
+  unfolding blockUntilPast
+  block-past h = rw (lt-ltb limit (length (untilPast limit 0 entries)) (rw counted at h)) put
+
+  within : {after : List ℕ} {r : ℕ} → end ≤ limit → Written 0 (untilPast limit 0 entries ++ closing entries) before after r
+      → Written 0 (blockUntilPast limit entries) before after r
+  unfolding blockUntilPast
+  within l w = rw (le-ltb limit (length (untilPast limit 0 entries)) (rw counted at l)) w
 
   -- no entries: two NULs
-  pub block-empty : (o₂ o₃ : List ℕ) → end ≤ limit → end ≡ 0 → o₂ ≡ set o₁ end nul → o₃ ≡ set o₂ 1 nul → Counted limit (block entries) before o₃ 2
-  block-empty o₂ o₃ l z h₂ h₃ = go entries (counted .place l) (counted .stores l)
+  pub block-empty : {o₂ o₃ : List ℕ} → end ≤ limit → end ≡ 0 → o₂ ≡ set o₁ end nul → o₃ ≡ set o₂ 1 nul → Written 0 (blockUntilPast limit entries) before o₃ 2
+  block-empty {o₂} {o₃} l z h₂ h₃ = within l (go entries put)
     where
-      go : (entries : List Entry) → end ≡ length (entryUnits entries) → o₁ ≡ sets before 0 (entryUnits entries) → Counted limit (block entries) before o₃ 2
-      go [] n s = rw block-none (exactly refl (rw (h₃, h₂, z, s, units-none)))
-      go (e ∷ more) n s = absurd (units-some e more (sym n ∙ z))
+      go : (entries : List Entry) → Written 0 (untilPast limit 0 entries) before o₁ end → Written 0 (untilPast limit 0 entries ++ closing entries) before o₃ 2
+      go [] w = rw (none-counted limit) (record { place = omega arith; stores = rw (h₃, h₂, z, w .stores, none-counted limit) })
+      go (e ∷ more) w = absurd (omega (arith, units-some limit e more, w .place))
 
   -- entries, and one NUL behind the last
-  pub block-full : (o₂ : List ℕ) → end ≤ limit → (end ≡ 0 → ⊥) → o₂ ≡ set o₁ end nul → Counted limit (block entries) before o₂ (end + 1)
-  block-full o₂ l z h₂ = go entries (counted .place l) (counted .stores l)
+  pub block-full : {o₂ : List ℕ} → end ≤ limit → (end ≡ 0 → ⊥) → o₂ ≡ set o₁ end nul → Written 0 (blockUntilPast limit entries) before o₂ (end + 1)
+  block-full {o₂} l z h₂ = within l (go entries put)
     where
-      go : (entries : List Entry) → end ≡ length (entryUnits entries) → o₁ ≡ sets before 0 (entryUnits entries) → Counted limit (block entries) before o₂ (end + 1)
-      go [] n s = absurd (z (rw units-none at n))
-      go (e ∷ more) n s =
-          rw (block-some e more)
-          (exactly (rw (length-append, n)) (rw (h₂, s, n, sets-append before 0 (entryUnits (e ∷ more)) (nul ∷ []), zero-add)))
+      go : (entries : List Entry) → Written 0 (untilPast limit 0 entries) before o₁ end → Written 0 (untilPast limit 0 entries ++ closing entries) before o₂ (end + 1)
+      go [] w = absurd (z (omega (arith, rw (none-counted limit) at (w .place))))
+      go (e ∷ more) w =
+          let units = untilPast limit 0 (e ∷ more) in
+          record {
+            place = rw length-append (omega (arith, w .place));
+            stores = rw (h₂, sets-append before 0 units (nul ∷ []), ← w .stores, ← w .place);
+          }
+
+-- ---- what is counted, and the whole
+
+-- within the limit it is the whole; past the limit so is the whole
+pub record Stands (limit : ℕ) (whole counted : List ℕ) : Type 0 where
+  pub same : length counted ≤ limit → counted ≡ whole
+  pub past : limit < length counted → limit < length whole
+
+-- the first entry's units, then those of the others
+units-next : (e : Entry) (more : List Entry) → entryUnits (e ∷ more) ≡ oneEntry e ++ entryUnits more
+unfolding entryUnits
+units-next e more = sym (append-assoc (e .key ++ equals ∷ e .value) (nul ∷ []) (entryUnits more))
+
+-- the entries' units, then what closes them
+block-is : (entries : List Entry) → block entries ≡ entryUnits entries ++ closing entries
+unfolding block entryUnits
+block-is [] = refl
+block-is (e ∷ more) = refl
+
+no-longer : (limit to : ℕ) (entries : List Entry) → length (untilPast limit to entries) ≤ length (entryUnits entries)
+unfolding untilPast
+no-longer limit to [] = zero-le
+no-longer limit to (e ∷ more) = rw (units-next e more, length-append (oneEntry e) (entryUnits more)) (go (ltb limit (to + length (oneEntry e))) (no-longer limit (to + length (oneEntry e)) more))
+  where
+    go : (b : Bool) → length (untilPast limit (to + length (oneEntry e)) more) ≤ length (entryUnits more)
+        → length (pick b (oneEntry e) (oneEntry e ++ untilPast limit (to + length (oneEntry e)) more)) ≤ length (oneEntry e) + length (entryUnits more)
+    go true h = omega arith
+    go false h = rw length-append (omega arith)
+
+all-counted : (limit to : ℕ) (entries : List Entry) → to + length (untilPast limit to entries) ≤ limit → untilPast limit to entries ≡ entryUnits entries
+unfolding untilPast entryUnits
+all-counted limit to [] h = refl
+all-counted limit to (e ∷ more) h = go (ltb limit (to + length (oneEntry e))) refl h (λ g. all-counted limit (to + length (oneEntry e)) more g)
+  where
+    others : List ℕ
+    others = untilPast limit (to + length (oneEntry e)) more
+
+    go : (b : Bool) → ltb limit (to + length (oneEntry e)) ≡ b → to + length (pick b (oneEntry e) (oneEntry e ++ others)) ≤ limit
+        → (to + length (oneEntry e) + length others ≤ limit → others ≡ entryUnits more) → pick b (oneEntry e) (oneEntry e ++ others) ≡ entryUnits (e ∷ more)
+    go true t g ih = absurd (omega (arith, ltb-true limit (to + length (oneEntry e)) t))
+    go false t g ih = ap (λ (l : List ℕ). oneEntry e ++ l) (ih (omega (arith, length-append (oneEntry e) others))) ∙ sym (units-next e more)
+
+pub stands : (limit : ℕ) (entries : List Entry) → Stands limit (block entries) (blockUntilPast limit entries)
+unfolding blockUntilPast
+stands limit entries = go (ltb limit (length units)) refl
+  where
+    units : List ℕ
+    units = untilPast limit 0 entries
+
+    go : (b : Bool) → ltb limit (length units) ≡ b → Stands limit (block entries) (pick b units (units ++ closing entries))
+    go true e =
+        let l = ltb-true limit (length units) e in
+        record { same = λ h. absurd (omega arith); past = λ h. rw (block-is entries, length-append) (omega (arith, no-longer limit 0 entries)) }
+    go false e =
+        let l = ltb-false limit (length units) e in
+        let w : units ≡ entryUnits entries = all-counted limit 0 entries (omega arith) in
+        rw (w, ← block-is entries) (record { same = λ h. refl; past = λ h. h })

@@ -1,11 +1,12 @@
 -- What the routines under the environment block promise. Assumes nothing.
-use Prim.Native.Nat.{ℕ, zero, suc, _+_, _≤_, _<_}
+use Prim.Native.Nat.{ℕ, zero, suc, _+_}
 use mathlib.Core.Path.{_≡_}
 use mathlib.Core.Bool.{Bool}
 use mathlib.Core.List.{List, [], _∷_, _++_}
+use lib.Dec.{ltb}
 use lib.ListN.{length, getD}
 use lib.Seq.{sets}
-use Rattle.rules.specs.Choice.{either, any}
+use Rattle.rules.specs.Choice.{pick, either, any}
 use Rattle.rules.specs.Unit.{isNul, nul, equals}
 use Rattle.rules.specs.Outcome.{Fault, faultless, fault}
 use Rattle.rules.specs.Record as rules
@@ -47,8 +48,23 @@ pub record Written (at : ℕ) (whole before after : List ℕ) (r : ℕ) : Type 0
   pub place : r ≡ at + length whole
   pub stores : after ≡ sets before at whole
 
--- all of it was written from the front on and counted, or it is longer than the limit, and so is the answer
-pub record Counted (limit : ℕ) (whole before after : List ℕ) (r : ℕ) : Type 0 where
-  pub place : r ≤ limit → r ≡ length whole
-  pub over : limit < r → limit < length whole
-  pub stores : r ≤ limit → after ≡ sets before 0 whole
+-- ---- counting
+
+-- The units of entries, where so many stand before them, up to the entry with which they pass the limit. Nothing is counted behind it: many records
+-- can name the same long text, so that a further sum could wrap.
+unfoldable pub untilPast : ℕ → ℕ → List Entry → List ℕ
+untilPast limit to [] = []
+untilPast limit to (e ∷ more) =
+    let next = to + length (oneEntry e) in
+    let others = untilPast limit next more in
+    pick (ltb limit next) (oneEntry e) (oneEntry e ++ others)
+
+-- "one NUL follows the last. No entries: exactly two NULs."
+abbrev pub closing : List Entry → List ℕ
+closing [] = nul ∷ nul ∷ []
+closing (e ∷ more) = nul ∷ []
+
+-- a block as far as it is counted: whole where it is within the limit
+unfoldable pub blockUntilPast : ℕ → List Entry → List ℕ
+unfolding untilPast
+blockUntilPast limit entries = let units = untilPast limit 0 entries in pick (ltb limit (length units)) units (units ++ closing entries)

@@ -1,8 +1,8 @@
 // Environment blocks from flat records of keys and values in a lent text.
 ghost use lib.ListN.{length};
-ghost use Rattle.rules.specs.Answer.{Answered};
+ghost use Rattle.rules.specs.Answer.{Answered, filledSaid};
 ghost use Rattle.rules.specs.Block.{environmentBlock};
-use rules::Built;
+use rules::Filled;
 use rules::Refusal;
 
 mod judging;
@@ -10,24 +10,24 @@ mod records;
 mod writing;
 
 // Writes the environment block (Rust: `make_envp`). A refusal is decided before anything is stored.
-pub fn make_envp(records: &[u32], text: &[u16], out: &mut [u16]) -> Built
-    ensures { λ r. ⌜ Answered (environmentBlock (now (records .entry)) (now (text .entry)) (length (now (out .entry)))) r (now (out .entry)) (now (out .exit)) ⌝ }
+pub fn make_envp(records: &[u32], text: &[u16], out: &mut [u16]) -> Filled
+    ensures { λ r. ⌜ Answered (environmentBlock (now (records .entry)) (now (text .entry)) (length (now (out .entry)))) (filledSaid r) (now (out .entry)) (now (out .exit)) ⌝ }
 {
     let outside = judging::first_outside(records, text);
     if outside != 0 {
-        return Built::Refused(Refusal::Record(outside));
+        return Filled::Refused(Refusal::Record(outside));
     }
     let with_nul = judging::first_with_nul(records, text);
     if with_nul != 0 {
-        return Built::Refused(Refusal::Nul(with_nul));
+        return Filled::Refused(Refusal::Nul(with_nul));
     }
     let units = writing::block_len(records, text);
     if writing::BLOCK_LIMIT < units {
-        return Built::Refused(Refusal::Length);
+        return Filled::Refused(Refusal::Length);
     }
     if out.len() < units {
-        return Built::Refused(Refusal::Room);
+        return Filled::Refused(Refusal::Room);
     }
     writing::put_block(out, records, text);
-    Built::Line { units }
+    Filled::Units(units)
 }

@@ -1,9 +1,10 @@
 // The units of a block. The same routine measures and writes: lent no output, it stores nothing.
-ghost use mathlib.Core.List.{[]};
-ghost use Prim.Native.Nat.{_+_, _≤_};
+ghost use mathlib.Core.Path.{_≡_};
+ghost use Prim.Native.Nat.{_≤_};
+ghost use lib.ListN.{length};
 ghost use Rattle.rules.specs.Record.{entriesOf, entryOf};
-ghost use Rattle.rules.specs.Block.{blockLimit, entryUnits, block};
-ghost use Rattle.blocks.specs.Entries.{ruled, oneEntry, Counted, Written};
+ghost use Rattle.rules.specs.Block.{blockLimit};
+ghost use Rattle.blocks.specs.Entries.{ruled, oneEntry, Written, untilPast, blockUntilPast};
 use crate::records;
 use crate::records::EntryRecord;
 use units::parts;
@@ -32,7 +33,7 @@ fn put_entry(out: &mut [u16], at: usize, text: &[u16], entry: EntryRecord) -> us
 
 // The entries from the front on. Many records can name the same long text, so counting stops once past the limit: a further sum could wrap.
 fn put_entries(out: &mut [u16], records: &[u32], text: &[u16]) -> usize
-    ensures { λ r. ⌜ Counted blockLimit (entryUnits (entriesOf (now (text .entry)) (now (records .entry)))) (now (out .entry)) (now (out .exit)) r ⌝ }
+    ensures { λ r. ⌜ Written 0 (untilPast blockLimit 0 (entriesOf (now (text .entry)) (now (records .entry)))) (now (out .entry)) (now (out .exit)) r ⌝ }
 {
     let mut to = 0;
     let mut at = 0;
@@ -46,9 +47,9 @@ fn put_entries(out: &mut [u16], records: &[u32], text: &[u16]) -> usize
     to
 }
 
-// The whole block: the entries and one NUL, or two NULs where there are none.
+// The block: the entries and one NUL, or two NULs where there are none; past the limit the entries that were counted.
 pub fn put_block(out: &mut [u16], records: &[u32], text: &[u16]) -> usize
-    ensures { λ r. ⌜ Counted blockLimit (block (entriesOf (now (text .entry)) (now (records .entry)))) (now (out .entry)) (now (out .exit)) r ⌝ }
+    ensures { λ r. ⌜ Written 0 (blockUntilPast blockLimit (entriesOf (now (text .entry)) (now (records .entry)))) (now (out .entry)) (now (out .exit)) r ⌝ }
 {
     let end = put_entries(out, records, text);
     if BLOCK_LIMIT < end {
@@ -64,7 +65,7 @@ pub fn put_block(out: &mut [u16], records: &[u32], text: &[u16]) -> usize
 
 // How many units the block has, or a number past the limit where it has more than that.
 pub fn block_len(records: &[u32], text: &[u16]) -> usize
-    ensures { λ r. ⌜ Counted blockLimit (block (entriesOf (now (text .entry)) (now (records .entry)))) [] [] r ⌝ }
+    ensures { λ r. ⌜ r ≡ length (blockUntilPast blockLimit (entriesOf (now (text .entry)) (now (records .entry)))) ⌝ }
 {
     let mut none = [0u16; 0];
     put_block(&mut none, records, text)

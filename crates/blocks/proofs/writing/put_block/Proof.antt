@@ -17,7 +17,7 @@ unfolding blockLimit
 returns c =
     let at-put-entries = c .before .before .before in
     let a = at-put-entries .before .before .before .before .before .args in
-    block-past blockLimit _ (entriesOf (a .text .now) (a .records .now)) _ _ (c .before .before .before .put-entries .ensures) (c .if1 .taken)
+    block-past blockLimit _ (entriesOf (a .text .now) (a .records .now)) (c .before .before .before .put-entries .ensures) (c .if1 .taken)
 
 put-requires : tie.Need-put-requires
 put-requires c κs = search needs
@@ -36,7 +36,7 @@ returns-2 c =
     let a = at-put-entries .before .before .before .before .before .args in
     let entries = at-put .before .before .before .before .before .put-entries in
     let tested = at-put .before .before .if1 in
-    block-empty blockLimit _ (entriesOf (a .text .now) (a .records .now)) _ _ (entries .ensures) _ _ (tested .left) (c .before .before .before .before .if2 .taken) (c .before .before .before .before .before .before .before .put .ensures) (c .before .before .put2 .ensures)
+    block-empty blockLimit _ (entriesOf (a .text .now) (a .records .now)) (entries .ensures) (tested .left) (c .before .before .before .before .if2 .taken) (c .before .before .before .before .before .before .before .put .ensures) (c .before .before .put2 .ensures)
 
 add-result : tie.Need-add-result
 add-result c = search needs
@@ -51,7 +51,7 @@ returns-3 c =
     let at-put-entries = at-put .before .before .before .before .before in
     let a = at-put-entries .before .before .before .before .before .args in
     let entries = at-put .before .before .before .before .before .put-entries in
-    block-full blockLimit _ (entriesOf (a .text .now) (a .records .now)) _ _ (entries .ensures) _ (c .before .before .before .before .before .if1 .left) (c .if2 .left) (c .before .before .before .put .ensures)
+    block-full blockLimit _ (entriesOf (a .text .now) (a .records .now)) (entries .ensures) (c .before .before .before .before .before .if1 .left) (c .if2 .left) (c .before .before .before .put .ensures)
 
 pub put-block-spec : {M : Type 1} → statement M
 put-block-spec =
