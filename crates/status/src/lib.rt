@@ -3,10 +3,10 @@ ghost use mathlib.Core.Path.{_≡_};
 ghost use mathlib.Core.List.{_++_};
 ghost use Prim.Native.Nat.{_<_, _≤_};
 ghost use lib.ListN.{length};
-ghost use Rattle.rules.specs.Answer.{Answered};
+ghost use Rattle.rules.specs.Answer.{Answered, filledSaid};
 ghost use Rattle.rules.specs.Status.{glyph, statusOutcome, signedCode};
 ghost use Rattle.status.specs.Text.{Laid, fitted};
-use rules::Built;
+use rules::Filled;
 use rules::Refusal;
 use units::stores::copy_run;
 
@@ -32,7 +32,7 @@ fn glyph_of(digit: u32) -> u16
 // that they are laid before it is known how many there are.
 fn lay_digits(base: u32, number: u32, places: &mut [u16; 10]) -> usize
     requires { ⌜ (10 ≤ base) × (base ≤ 16) × (length (now places) ≡ 10) ⌝ }
-    ensures { λ r. ⌜ Laid base number r (now (places .exit)) ⌝ }
+    ensures { λ r. ⌜ Laid base number r (now (places .entry)) (now (places .exit)) ⌝ }
 {
     let mut left = number;
     let mut at = 10;
@@ -47,21 +47,21 @@ fn lay_digits(base: u32, number: u32, places: &mut [u16; 10]) -> usize
 }
 
 // Writes front and digits, where the output has room for both.
-fn answer(front: &[u16], digits: &[u16], out: &mut [u16]) -> Built
-    ensures { λ r. ⌜ Answered (fitted (now (front .entry) ++ now (digits .entry)) (length (now (out .entry)))) r (now (out .entry)) (now (out .exit)) ⌝ }
+fn answer(front: &[u16], digits: &[u16], out: &mut [u16]) -> Filled
+    ensures { λ r. ⌜ Answered (fitted (now (front .entry) ++ now (digits .entry)) (length (now (out .entry)))) (filledSaid r) (now (out .entry)) (now (out .exit)) ⌝ }
 {
     let units = front.len() + digits.len();
     if out.len() < units {
-        return Built::Refused(Refusal::Room);
+        return Filled::Refused(Refusal::Room);
     }
     copy_run(out, 0, front);
     copy_run(out, front.len(), digits);
-    Built::Line { units }
+    Filled::Units(units)
 }
 
 // The text of a status (Rust: the `Display` of `ExitStatus`).
-pub fn status_text(status: u32, out: &mut [u16]) -> Built
-    ensures { λ r. ⌜ Answered (statusOutcome status (length (now (out .entry)))) r (now (out .entry)) (now (out .exit)) ⌝ }
+pub fn status_text(status: u32, out: &mut [u16]) -> Filled
+    ensures { λ r. ⌜ Answered (statusOutcome status (length (now (out .entry)))) (filledSaid r) (now (out .entry)) (now (out .exit)) ⌝ }
 {
     let mut places = [0u16; 10];
     if status < 2147483648 {

@@ -8,7 +8,7 @@ use Rattle.status.proofs.lay_digits.Statement.{statement}
 use Rattle.status.proofs.lay_digits.Tie as tie
 
 abbrev Inv-loop : tie.InvT-loop
-Inv-loop base number places₀ left₀ at₀ places left at = Laying base number left at places
+Inv-loop base number places₀ left₀ at₀ places left at = Laying base number left at places₀ places
 
 abbrev μ-loop : tie.MeasureT-loop
 μ-loop base number places₀ left₀ at₀ places left at = left

@@ -37,7 +37,7 @@ returns c =
     let tested = at-lay-digits .before .before .if1 in
     let laid = c .before .before .before .before .before .before .before .lay-digits in
     of-status (start .args .status)
-    (decimal-text (start .args .status) (laid .result) (laid .last .1 .1 .0) (tested .taken) (laid .ensures))
+    (decimal-text (start .args .status) (laid .result) _ (laid .last .1 .1 .0) (tested .taken) (laid .ensures))
     (c .before .before .answer .ensures)
 
 lay-digits-requires-2 : tie.Need-lay-digits-requires-2
@@ -72,7 +72,7 @@ returns-2 c =
     let tested = at-lay-digits2 .before .before .if1 in
     let laid = c .before .before .before .before .before .before .before .lay-digits2 in
     of-status (start .args .status)
-    (hexadecimal-text (start .args .status) (laid .result) (laid .last .1 .1 .0) (tested .left) (start .fits .status .fits) (laid .ensures))
+    (hexadecimal-text (start .args .status) (laid .result) _ (laid .last .1 .1 .0) (tested .left) (start .fits .status .fits) (laid .ensures))
     (c .before .before .answer2 .ensures)
 
 pub status-text-spec : {M : Type 1} → statement M
