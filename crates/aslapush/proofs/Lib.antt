@@ -1,2 +1,1 @@
 pub mod Telling
-pub mod Spans

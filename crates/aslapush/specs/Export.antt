@@ -35,13 +35,9 @@ pub record Gave (o : Outcome (List (List ℕ))) (number : ℕ) (answer text text
   pub leaves : text′ ≡ filled text (outcomeTexts o)
   pub tabulates : spans′ ≡ filled spans (outcomeSpans o)
 
--- start and length of one argument's part; 0 and 0 where it is the empty part of an index not in the table or of a span reaching past the text
-unfoldable pub argumentSpan : List ℕ → List ℕ → ℕ → List ℕ
-argumentSpan text spans index =
-    let start = getD spans (2 * index) 0 in
-    let size = getD spans (2 * index + 1) 0 in
-    let named = pick (exceeds text start size) (0 ∷ 0 ∷ []) (start ∷ size ∷ []) in
-    pick (ltb index (placesOf (length spans))) named (0 ∷ 0 ∷ [])
+-- a span as the two numbers of a lent array
+abbrev pub startAndLength : Span → List ℕ
+startAndLength s = s .start ∷ s .len ∷ []
 
 -- a truth as a number
 abbrev pub asNumber : Bool → ℕ

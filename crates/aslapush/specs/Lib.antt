@@ -1,3 +1,2 @@
 pub mod Export
-pub mod Part
 pub mod Once

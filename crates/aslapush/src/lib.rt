@@ -9,7 +9,8 @@ ghost use Rattle.rules.specs.Building.{commandLine, batchCommandLine};
 ghost use Rattle.rules.specs.Block.{environmentBlock};
 ghost use Rattle.rules.specs.Status.{statusOutcome, signedCode};
 ghost use Rattle.rules.specs.Suffix.{hasBatchSuffix};
-ghost use Rattle.aslapush.specs.Export.{forces, Wrote, Gave, argumentSpan, asNumber};
+ghost use Rattle.reading.specs.Span.{argumentSpan};
+ghost use Rattle.aslapush.specs.Export.{forces, Wrote, Gave, startAndLength, asNumber};
 use answers::tell_built;
 use answers::tell_filled;
 use answers::tell_parsed;
@@ -116,14 +117,8 @@ pub extern "C" fn aslapush_class_of(unit: u16) -> u8
 // Start and length of one argument's part in the lent text; 0 and 0 for an index not in the table or a span reaching past the text.
 #[no_mangle]
 pub extern "C" fn aslapush_argument(text: &[u16], spans: &[u32], index: usize, part: &mut [u64; 2])
-    ensures { λ _. ⌜ now (part .exit) ≡ argumentSpan (now (text .entry)) (now (spans .entry)) index ⌝ }
+    ensures { λ _. ⌜ now (part .exit) ≡ startAndLength (argumentSpan (now (text .entry)) (now (spans .entry)) index) ⌝ }
 {
-    *part = [0, 0];
-    if index < spans.len() / 2 {
-        let start = spans[2 * index] as u64;
-        let len = spans[2 * index + 1] as u64;
-        if start + len <= text.len() as u64 {
-            *part = [start, len];
-        }
-    }
+    let span = reading::span_of(text, spans, index);
+    *part = [span.start as u64, span.len as u64];
 }
