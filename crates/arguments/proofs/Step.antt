@@ -16,9 +16,9 @@ use Rattle.laws.specs.Scan.{leading, leading-in}
 use Rattle.laws.specs.Store.{sets-append}
 use Rattle.arguments.specs.declared.steps.Point.{Point}
 use Rattle.laws.specs.Run.{at, at-is, run-stops, starts-with, startsWith}
-use Rattle.arguments.specs.Run.{isEnd, isPlain}
-use Rattle.arguments.specs.Next.{ahead, mode, next, further}
-use Rattle.arguments.specs.Step.{Step, markStep, slashesAt, plainStep, stepAt, Stepped}
+use Rattle.arguments.specs.Run.{isEnd, isTaken}
+use Rattle.arguments.specs.Next.{withFront, mode, nextArgument, laterArgument}
+use Rattle.arguments.specs.Step.{OneStep, markStep, slashesAt, plainStep, stepAt, Stepped}
 use Rattle.arguments.proofs.Next as N
 use Rattle.arguments.proofs.Still as still
 use Rattle.arguments.proofs.Still.{Still}
@@ -26,8 +26,8 @@ use Rattle.arguments.proofs.Still.{Still}
 -- ---- what a step is
 
 -- an argument goes on by a step: its units are these and then those of what is behind it
-pub record Steps (q : Bool) (here : List ℕ) (s : Step) : Type 0 where
-  pub reads : further q here ≡ ahead (s .given) (further (s .quoted) (drop (s .used) here))
+pub record Steps (q : Bool) (here : List ℕ) (s : OneStep) : Type 0 where
+  pub reads : laterArgument q here ≡ withFront (s .given) (laterArgument (s .quoted) (drop (s .used) here))
   pub within : s .used ≤ length here
   pub some : 0 < s .used
   pub few : length (s .given) ≤ s .used
@@ -53,7 +53,7 @@ slash-steps q here some = go (startsWith isQuote (drop k here)) (odd k) refl ref
     inside : k ≤ length here
     inside = leading-in isBackslash here
 
-    passes : further q here ≡ next (mode q) k (drop k here)
+    passes : laterArgument q here ≡ nextArgument (mode q) k (drop k here)
     passes = N.counts q 0 here ∙ rw zero-add
 
     mark : startsWith isQuote (drop k here) ≡ true → drop k here ≡ quote ∷ drop (k + 1) here
@@ -71,7 +71,7 @@ slash-steps q here some = go (startsWith isQuote (drop k here)) (odd k) refl ref
       few = rw (length-append, length-replicate) (omega arith);
     }
     go true false u o = record {
-      reads = passes ∙ ap (next (mode q) k) (mark u) ∙ N.halves q k (drop (k + 1) here) o ∙ rw (mark u);
+      reads = passes ∙ ap (nextArgument (mode q) k) (mark u) ∙ N.halves q k (drop (k + 1) here) o ∙ rw (mark u);
       within = inside;
       some = some;
       few = rw length-replicate (omega arith);
@@ -84,10 +84,10 @@ slash-steps q here some = go (startsWith isQuote (drop k here)) (odd k) refl ref
     }
 
 -- a run of plain units
-plain-steps : (q : Bool) (here : List ℕ) → 0 < leading (isPlain q) here → Steps q here (plainStep q (leading (isPlain q) here) here)
+plain-steps : (q : Bool) (here : List ℕ) → 0 < leading (isTaken q) here → Steps q here (plainStep q (leading (isTaken q) here) here)
 plain-steps q here some =
-    let l : leading (isPlain q) here ≤ length here = leading-in (isPlain q) here in
-    let t : length (take (leading (isPlain q) here) here) ≡ leading (isPlain q) here = length-take-le _ here l in
+    let l : leading (isTaken q) here ≤ length here = leading-in (isTaken q) here in
+    let t : length (take (leading (isTaken q) here) here) ≡ leading (isTaken q) here = length-take-le _ here l in
     record { reads = N.takes-run q here; within = l; some = some; few = omega arith }
 
 -- any step at a unit that ends nothing
@@ -96,7 +96,7 @@ unfolding stepAt startsWith leading
 steps q x xs e = go (isQuote x) (isBackslash x) refl refl
   where
     go : (b c : Bool) → isQuote x ≡ b → isBackslash x ≡ c
-        → Steps q (x ∷ xs) (pick b (markStep q xs) (pick c (slashesAt q (x ∷ xs)) (plainStep q (leading (isPlain q) (x ∷ xs)) (x ∷ xs))))
+        → Steps q (x ∷ xs) (pick b (markStep q xs) (pick c (slashesAt q (x ∷ xs)) (plainStep q (leading (isTaken q) (x ∷ xs)) (x ∷ xs))))
     go true c u v = rw (eqb-true x 34 u) (mark-steps q xs)
     go false true u v = slash-steps q (x ∷ xs) (rw v (omega arith))
     go false false u v = plain-steps q (x ∷ xs) (rw (u, v, e) (omega arith))
@@ -108,8 +108,8 @@ pub steps-at : (q : Bool) (rest : List ℕ) (i : ℕ) → i < length rest → is
 steps-at q rest i h e = rw (at rest i h) (steps q (getD rest i 0) (drop (i + 1) rest) e)
 
 -- what is left of an argument behind a step
-pub turn : {rest before out after : List ℕ} {here there : Point} (s : Step) → Still further rest before out (here .used) (here .units) (here .quoted)
-    → Steps (here .quoted) (drop (here .used) rest) s → Stepped s here out after there → Still further rest before after (there .used) (there .units) (there .quoted)
+pub turn : {rest before out after : List ℕ} {here there : Point} (s : OneStep) → Still laterArgument rest before out (here .used) (here .units) (here .quoted)
+    → Steps (here .quoted) (drop (here .used) rest) s → Stepped s here out after there → Still laterArgument rest before after (there .used) (there .units) (there .quoted)
 turn s r p t = rw (t .uses, t .counts, t .turns) (still.goes r (s .used) (s .given) (p .reads) (p .within) (p .few) (t .stores))
 
 -- ---- how the code takes it: a quote mark
@@ -142,7 +142,7 @@ module _ (rest before : List ℕ) (here : Point) where
 -- ---- a run of k backslashes
 
 module _ (rest before : List ℕ) (here : Point) (k : ℕ) (e : k ≡ leading isBackslash (drop (here .used) rest)) where
-  abbrev slashes-here : Step
+  abbrev slashes-here : OneStep
   slashes-here = slashesAt (here .quoted) (drop (here .used) rest)
 
   abbrev behind : List ℕ
@@ -176,7 +176,7 @@ module _ (rest before : List ℕ) (here : Point) (k : ℕ) (e : k ≡ leading is
 -- ---- any step, by the unit that stands there
 
 module _ (rest : List ℕ) (here : Point) (h : here .used < length rest) where
-  abbrev any-here : Step
+  abbrev any-here : OneStep
   any-here = stepAt (here .quoted) (drop (here .used) rest)
 
   abbrev unit : ℕ
@@ -203,11 +203,11 @@ module _ (rest : List ℕ) (here : Point) (h : here .used < length rest) where
   at-slash u t = rw (quote-there, slash-there, u) t
 
   -- neither: a run of plain units
-  pub plain : {before after : List ℕ} (run : ℕ) → (unit ≡ 34 → ⊥) → (unit ≡ 92 → ⊥) → run ≡ leading (isPlain (here .quoted)) (drop (here .used) rest)
+  pub plain : {before after : List ℕ} (run : ℕ) → (unit ≡ 34 → ⊥) → (unit ≡ 92 → ⊥) → run ≡ leading (isTaken (here .quoted)) (drop (here .used) rest)
       → after ≡ sets before (here .units) (take run (drop (here .used) rest))
       → Stepped any-here here before after (record { used = here .used + run; units = here .units + run; quoted = here .quoted })
   unfolding stepAt
   plain run u v e w =
-      let l : leading (isPlain (here .quoted)) (drop (here .used) rest) ≤ length (drop (here .used) rest) = leading-in (isPlain (here .quoted)) (drop (here .used) rest) in
+      let l : leading (isTaken (here .quoted)) (drop (here .used) rest) ≤ length (drop (here .used) rest) = leading-in (isTaken (here .quoted)) (drop (here .used) rest) in
       let t : length (take run (drop (here .used) rest)) ≡ run = length-take-le run (drop (here .used) rest) (omega arith) in
       rw (quote-there, slash-there, ne-eqb _ _ u, ne-eqb _ _ v, ← e) (record { uses = refl; counts = omega arith; turns = refl; stores = w })

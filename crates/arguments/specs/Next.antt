@@ -16,31 +16,31 @@ pub record Next : Type 0 where
   pub behind : List ℕ
 
 -- the same with units in front of the argument
-abbrev pub ahead : List ℕ → Next → Next
-ahead units n = record { argument = units ++ n .argument; behind = n .behind }
+abbrev pub withFront : List ℕ → Next → Next
+withFront units n = record { argument = units ++ n .argument; behind = n .behind }
 
 -- argument 0 from a place in it, where q says whether quoted mode is on
-abbrev pub first : Bool → List ℕ → Next
-first q rest = record { argument = argument0 q rest; behind = behind0 q rest }
+abbrev pub firstArgument : Bool → List ℕ → Next
+firstArgument q rest = record { argument = argument0 q rest; behind = behind0 q rest }
 
 -- a quote mark that is handled as a quote, where `go` reads on in a mode: `mark` of the rules for one argument
-abbrev pub marked : Mode → (Mode → Next) → Next
-marked between go = go inside
-marked outside go = go inside
-marked inside go = go closing
-marked closing go = ahead (quote ∷ []) (go inside)
+abbrev pub nextMarked : Mode → (Mode → Next) → Next
+nextMarked between go = go inside
+nextMarked outside go = go inside
+nextMarked inside go = go closing
+nextMarked closing go = withFront (quote ∷ []) (go inside)
 
 -- A later argument from a mode, with k backslashes just passed: `later` of the rules for one argument, which is at its end where the line is.
-unfoldable pub next : Mode → ℕ → List ℕ → Next
+unfoldable pub nextArgument : Mode → ℕ → List ℕ → Next
 unfolding taking outsideQuotes
-next m k [] = record { argument = slashes k; behind = [] }
-next m k (x ∷ xs) =
-    let counted = next (taking m) (k + 1) xs in
-    let literal = ahead (slashes (k / 2) ++ quote ∷ []) (next (taking m) 0 xs) in
-    let handled = ahead (slashes (k / 2)) (marked m (λ m′. next m′ 0 xs)) in
+nextArgument m k [] = record { argument = slashes k; behind = [] }
+nextArgument m k (x ∷ xs) =
+    let counted = nextArgument (taking m) (k + 1) xs in
+    let literal = withFront (slashes (k / 2) ++ quote ∷ []) (nextArgument (taking m) 0 xs) in
+    let handled = withFront (slashes (k / 2)) (nextMarked m (λ m′. nextArgument m′ 0 xs)) in
     let quoting = pick (odd k) literal handled in
     let ended : Next = record { argument = slashes k; behind = xs } in
-    let kept = ahead (slashes k ++ x ∷ []) (next (taking m) 0 xs) in
+    let kept = withFront (slashes k ++ x ∷ []) (nextArgument (taking m) 0 xs) in
     let plain = pick (both (outsideQuotes m) (isBlank x)) ended kept in
     let other = pick (isQuote x) quoting plain in
     pick (isBackslash x) counted other
@@ -51,8 +51,8 @@ mode true = inside
 mode false = outside
 
 -- a later argument from a place in it
-abbrev pub further : Bool → List ℕ → Next
-further q rest = next (mode q) 0 rest
+abbrev pub laterArgument : Bool → List ℕ → Next
+laterArgument q rest = nextArgument (mode q) 0 rest
 
 -- One argument was read from the front of a rest: `used` units make it and what ends it, it has `units` units, and they stand at the front of the
 -- output, as far as there is room.

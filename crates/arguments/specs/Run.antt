@@ -13,5 +13,5 @@ abbrev pub isKept : Bool → ℕ → Bool
 isKept q x = pick (isQuote x) false (flip (isEnd q x))
 
 -- in a later argument every unit but a quote mark, a backslash and the blank that ends it
-abbrev pub isPlain : Bool → ℕ → Bool
-isPlain q x = pick (isQuote x) false (pick (isBackslash x) false (flip (isEnd q x)))
+abbrev pub isTaken : Bool → ℕ → Bool
+isTaken q x = pick (isQuote x) false (pick (isBackslash x) false (flip (isEnd q x)))

@@ -14,14 +14,14 @@ use Rattle.rules.specs.Quoting.{slashes}
 use Rattle.rules.specs.Reading.{Mode, later, between, outside, inside, closing, taking, outsideQuotes, ends, mark, last, odd}
 use Rattle.laws.specs.Scan.{leading}
 use Rattle.laws.specs.Run.{differ, startsWith}
-use Rattle.arguments.specs.Next.{next, marked, further}
+use Rattle.arguments.specs.Next.{nextArgument, nextMarked, laterArgument}
 
 -- ---- one after another
 
 -- nothing is left at the end of the line
-pub none-left : later between 0 [] [] ≡ []
+pub nothing-left : later between 0 [] [] ≡ []
 unfolding later
-none-left = refl
+nothing-left = refl
 
 -- a blank is neither a backslash nor a quote mark
 pub blank-plain : (x : ℕ) → isBlank x ≡ true → (isBackslash x ≡ false) × (isQuote x ≡ false)
@@ -32,25 +32,25 @@ blank-plain x e = (go (isBackslash x) 92 refl refl, go (isQuote x) 34 refl refl)
     go false y n p = refl
 
 -- a blank between arguments is passed
-blank : (x : ℕ) (xs : List ℕ) → isBlank x ≡ true → later between 0 [] (x ∷ xs) ≡ later between 0 [] xs
+passes-blank : (x : ℕ) (xs : List ℕ) → isBlank x ≡ true → later between 0 [] (x ∷ xs) ≡ later between 0 [] xs
 unfolding later
-blank x xs e = let (b, u) = blank-plain x e in rw (b, u, e)
+passes-blank x xs e = let (b, u) = blank-plain x e in rw (b, u, e)
 
 -- blanks are passed
-pub skips : (xs : List ℕ) → later between 0 [] xs ≡ later between 0 [] (drop (leading isBlank xs) xs)
+pub skips-blanks : (xs : List ℕ) → later between 0 [] xs ≡ later between 0 [] (drop (leading isBlank xs) xs)
 unfolding leading
-skips [] = refl
-skips (x ∷ xs) = go (isBlank x) (skips xs) refl
+skips-blanks [] = refl
+skips-blanks (x ∷ xs) = go (isBlank x) (skips-blanks xs) refl
   where
     go : (b : Bool) → later between 0 [] xs ≡ later between 0 [] (drop (leading isBlank xs) xs) → isBlank x ≡ b
         → later between 0 [] (x ∷ xs) ≡ later between 0 [] (drop (pick b (suc (leading isBlank xs)) 0) (x ∷ xs))
-    go true h e = blank x xs e ∙ h
+    go true h e = passes-blank x xs e ∙ h
     go false h e = refl
 
 -- ---- the next one, and the others behind it
 
--- A reader stands in an argument, n units before its end and the line's taken together: outside quotes some are behind it or to come, because an
--- argument without units is none there.
+-- A reader stands in an argument, and n units are in it or still to come. Outside quotes there is one at least: an argument without units is added
+-- only where quoted mode is set.
 data Held : Mode → ℕ → Type 0 where
   unquoted : {n : ℕ} → 0 < n → Held outside n
   quoted : {n : ℕ} → Held inside n
@@ -76,44 +76,44 @@ last-held cur quoted = refl
 last-held cur closed = refl
 
 -- the later arguments from a place in one of them are this one and those behind it
-Splits : List ℕ → Type 0
-Splits xs = (m : Mode) (k : ℕ) (cur : List ℕ) → Held m (length cur + (k + length xs))
-    → later m k cur xs ≡ (cur ++ next m k xs .argument) ∷ later between 0 [] (next m k xs .behind)
+Divides : List ℕ → Type 0
+Divides xs = (m : Mode) (k : ℕ) (cur : List ℕ) → Held m (length cur + (k + length xs))
+    → later m k cur xs ≡ (cur ++ nextArgument m k xs .argument) ∷ later between 0 [] (nextArgument m k xs .behind)
 
-marks : {m : Mode} {n : ℕ} (cur xs : List ℕ) → Splits xs → Held m n
+marks : {m : Mode} {n : ℕ} (cur xs : List ℕ) → Divides xs → Held m n
     → mark m cur (λ m′ cur′. later m′ 0 cur′ xs)
-    ≡ (cur ++ marked m (λ m′. next m′ 0 xs) .argument) ∷ later between 0 [] (marked m (λ m′. next m′ 0 xs) .behind)
-unfolding Splits mark
+    ≡ (cur ++ nextMarked m (λ m′. nextArgument m′ 0 xs) .argument) ∷ later between 0 [] (nextMarked m (λ m′. nextArgument m′ 0 xs) .behind)
+unfolding Divides mark
 marks cur xs ih (unquoted h) = ih inside 0 cur quoted
 marks cur xs ih quoted = ih closing 0 cur closed
 marks cur xs ih closed = rw append-assoc at (ih inside 0 (cur ++ quote ∷ []) quoted)
 
-onward : {m : Mode} (cur u v xs : List ℕ) → Splits xs → Held m (length (cur ++ u ++ v) + (0 + length xs))
-    → later m 0 (cur ++ u ++ v) xs ≡ (cur ++ (u ++ v ++ next m 0 xs .argument)) ∷ later between 0 [] (next m 0 xs .behind)
-unfolding Splits
-onward {m} cur u v xs ih h = simp append-assoc (simp append-assoc at (ih m 0 (cur ++ u ++ v) h))
+reads-on : {m : Mode} (cur u v xs : List ℕ) → Divides xs → Held m (length (cur ++ u ++ v) + (0 + length xs))
+    → later m 0 (cur ++ u ++ v) xs ≡ (cur ++ (u ++ v ++ nextArgument m 0 xs .argument)) ∷ later between 0 [] (nextArgument m 0 xs .behind)
+unfolding Divides
+reads-on {m} cur u v xs ih h = simp append-assoc (simp append-assoc at (ih m 0 (cur ++ u ++ v) h))
 
-splits : (xs : List ℕ) → Splits xs
-unfolding Splits later next
-splits [] m k cur h = last-held {m = m} (cur ++ slashes k) (rw (length-append, length-replicate) (rw add-zero at h))
-splits (x ∷ xs) m k cur h = go (isBackslash x) (isQuote x) (odd k) (both (outsideQuotes m) (isBlank x)) (splits xs) refl refl refl refl
+divides : (xs : List ℕ) → Divides xs
+unfolding Divides later nextArgument
+divides [] m k cur h = last-held {m = m} (cur ++ slashes k) (rw (length-append, length-replicate) (rw add-zero at h))
+divides (x ∷ xs) m k cur h = go (isBackslash x) (isQuote x) (odd k) (both (outsideQuotes m) (isBlank x)) (divides xs) refl refl refl refl
   where
-    go : (b c d e : Bool) → Splits xs → isBackslash x ≡ b → isQuote x ≡ c → odd k ≡ d → both (outsideQuotes m) (isBlank x) ≡ e
-        → later m k cur (x ∷ xs) ≡ (cur ++ next m k (x ∷ xs) .argument) ∷ later between 0 [] (next m k (x ∷ xs) .behind)
+    go : (b c d e : Bool) → Divides xs → isBackslash x ≡ b → isQuote x ≡ c → odd k ≡ d → both (outsideQuotes m) (isBlank x) ≡ e
+        → later m k cur (x ∷ xs) ≡ (cur ++ nextArgument m k (x ∷ xs) .argument) ∷ later between 0 [] (nextArgument m k (x ∷ xs) .behind)
     go true c d e ih p q r s = rw p (ih (taking m) (k + 1) cur (held-taking h (omega arith)))
     go false true true e ih p q r s =
-        rw (p, q, r) (onward cur (slashes (k / 2)) (quote ∷ []) xs ih (held-taking h (rw length-append (omega arith))))
+        rw (p, q, r) (reads-on cur (slashes (k / 2)) (quote ∷ []) xs ih (held-taking h (rw length-append (omega arith))))
     go false true false e ih p q r s = rw (p, q, r, ← append-assoc) (marks (cur ++ slashes (k / 2)) xs ih h)
     go false false d true ih p q r s = rw (p, q, s) (ends-held (cur ++ slashes k) (later between 0 [] xs) h)
     go false false d false ih p q r s =
-        rw (p, q, s) (onward cur (slashes k) (x ∷ []) xs ih (held-taking h (rw length-append (omega arith))))
+        rw (p, q, s) (reads-on cur (slashes k) (x ∷ []) xs ih (held-taking h (rw length-append (omega arith))))
 
 -- where a rest begins with an argument, it is that one and those behind it
 pub begins : (rest : List ℕ) → 0 < length rest → startsWith isBlank rest ≡ false
-    → later between 0 [] rest ≡ further false rest .argument ∷ later between 0 [] (further false rest .behind)
-unfolding startsWith later Splits
+    → later between 0 [] rest ≡ laterArgument false rest .argument ∷ later between 0 [] (laterArgument false rest .behind)
+unfolding startsWith later Divides
 begins [] h e = absurd (omega arith)
-begins (x ∷ xs) h e = first-unit ∙ splits (x ∷ xs) outside 0 [] (unquoted (omega arith))
+begins (x ∷ xs) h e = first-unit ∙ divides (x ∷ xs) outside 0 [] (unquoted (omega arith))
   where
     first-unit : later between 0 [] (x ∷ xs) ≡ later outside 0 [] (x ∷ xs)
     first-unit = rw e

@@ -3,7 +3,7 @@ mod runs;
 mod steps;
 
 ghost use mathlib.Core.Bool.{false};
-ghost use Rattle.arguments.specs.Next.{first, further, OneRead};
+ghost use Rattle.arguments.specs.Next.{firstArgument, laterArgument, OneRead};
 use steps::Point;
 use steps::read_step;
 use units::stores::copy_run;
@@ -16,7 +16,7 @@ pub struct Took {
 
 // Reads argument 0 and writes it to the front of the output, as far as there is room. Backslashes mean nothing there.
 pub fn read_first(line: &[u16], out: &mut [u16]) -> Took
-    ensures { λ r. ⌜ OneRead (first false (now (line .entry))) (now (line .entry)) (now (out .entry)) (now (out .exit)) (r .used) (r .units) ⌝ }
+    ensures { λ r. ⌜ OneRead (firstArgument false (now (line .entry))) (now (line .entry)) (now (out .entry)) (now (out .exit)) (r .used) (r .units) ⌝ }
 {
     let mut i = 0;
     let mut n = 0;
@@ -43,7 +43,7 @@ pub fn read_first(line: &[u16], out: &mut [u16]) -> Took
 
 // Reads one later argument from the rest of the line, which begins with it, and writes it to the front of the output, as far as there is room.
 pub fn read_later(rest: &[u16], out: &mut [u16]) -> Took
-    ensures { λ r. ⌜ OneRead (further false (now (rest .entry))) (now (rest .entry)) (now (out .entry)) (now (out .exit)) (r .used) (r .units) ⌝ }
+    ensures { λ r. ⌜ OneRead (laterArgument false (now (rest .entry))) (now (rest .entry)) (now (out .entry)) (now (out .exit)) (r .used) (r .units) ⌝ }
 {
     let mut here = Point {
         used: 0,

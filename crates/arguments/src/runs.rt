@@ -4,7 +4,7 @@ ghost use Rattle.rules.specs.Choice.{pick};
 ghost use Rattle.rules.specs.Unit.{isQuote};
 ghost use Rattle.laws.specs.Scan.{leading};
 ghost use Rattle.laws.specs.Run.{startsWith};
-ghost use Rattle.arguments.specs.Run.{isEnd, isKept, isPlain};
+ghost use Rattle.arguments.specs.Run.{isEnd, isKept, isTaken};
 use units::scans::find_any;
 use units::scans::is_blank;
 
@@ -36,7 +36,7 @@ pub fn kept_run(rest: &[u16], quoted: bool) -> usize
 
 // The same of a later argument, where backslashes mean something: up to a quote mark, a backslash and, outside quotes, a blank.
 pub fn plain_run(rest: &[u16], quoted: bool) -> usize
-    ensures { λ r. ⌜ r ≡ leading (isPlain quoted) (now (rest .entry)) ⌝ }
+    ensures { λ r. ⌜ r ≡ leading (isTaken quoted) (now (rest .entry)) ⌝ }
 {
     let space = outside_quotes(quoted, 32);
     let tab = outside_quotes(quoted, 9);

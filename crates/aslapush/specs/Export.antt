@@ -1,14 +1,12 @@
 -- What an exported function promises: the same as the entry point under it, in numbers and lent arrays. Assumes nothing.
-use Prim.Native.Nat.{ℕ, _*_, _+_}
+use Prim.Native.Nat.{ℕ}
 use mathlib.Core.Path.{_≡_}
 use mathlib.Core.Bool.{Bool}
 use mathlib.Core.List.{List, [], _∷_}
-use lib.Dec.{eqb, ltb}
-use lib.ListN.{length, getD}
+use lib.Dec.{eqb}
 use Rattle.rules.specs.Choice.{pick, flip}
 use Rattle.rules.specs.Outcome.{Outcome, filled}
-use Rattle.rules.specs.Record.{exceeds}
-use Rattle.rules.specs.Reading.{placesOf}
+use Rattle.reading.specs.declared.Span.{Span}
 use Rattle.rules.specs.Answer.{Said, unitsSaid, argumentsSaid, outcomeTexts, outcomeSpans}
 
 -- any number but 0 forces quotes

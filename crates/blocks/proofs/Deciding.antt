@@ -12,7 +12,7 @@ use Rattle.rules.specs.Outcome.{faultless, Fault, firstFault, unless, limited}
 use Rattle.rules.specs.Record.{entryFault, entriesOf}
 use Rattle.rules.specs.Block.{blockLimit, block, entryNulFinding, environmentBlock}
 use Rattle.rules.specs.Answer.{Answered, filledSaid, wrote}
-use Rattle.blocks.proofs.Entries.{stands}
+use Rattle.blocks.proofs.Entries.{counts-for}
 use Rattle.blocks.specs.Entries.{placed, Written, blockUntilPast}
 
 -- place 0 is no fault
@@ -51,12 +51,12 @@ module _ (records text out : List ℕ) where
       -- 2
       pub by-length : blockLimit < n → Answered (environmentBlock records text (length out)) (filledSaid (Filled.Refused Refusal.Length)) out out
       by-length h =
-          let past : blockLimit < length whole = stands blockLimit (entriesOf text records) .past (rw size at h) in
+          let past : blockLimit < length whole = counts-for blockLimit (entriesOf text records) .past (rw size at h) in
           rw (in-order, sound, clean, lt-ltb blockLimit (length whole) past) (record { says = refl; leaves = refl })
 
       module _ (within : n ≤ blockLimit) where
         all : counted ≡ whole
-        all = stands blockLimit (entriesOf text records) .same (rw size at within)
+        all = counts-for blockLimit (entriesOf text records) .same (rw size at within)
 
         fits : n ≡ length whole
         fits = size ∙ ap length all

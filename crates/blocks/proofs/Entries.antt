@@ -15,7 +15,7 @@ use Rattle.laws.specs.Store.{sets-append}
 use Rattle.rules.specs.Unit.{equals, nul}
 use Rattle.rules.specs.Record.{Entry}
 use Rattle.rules.specs.Block.{entryUnits, block}
-use Rattle.blocks.specs.Entries.{oneEntry, Written, untilPast, closing, blockUntilPast}
+use Rattle.blocks.specs.Entries.{oneEntry, Written, untilPast, blockEnd, blockUntilPast}
 
 -- ---- one entry
 
@@ -107,7 +107,7 @@ module _ (limit end : ℕ) (entries : List Entry) {before o₁ : List ℕ} (put 
   unfolding blockUntilPast
   block-past h = rw (lt-ltb limit (length (untilPast limit 0 entries)) (rw counted at h)) put
 
-  within : {after : List ℕ} {r : ℕ} → end ≤ limit → Written 0 (untilPast limit 0 entries ++ closing entries) before after r
+  within : {after : List ℕ} {r : ℕ} → end ≤ limit → Written 0 (untilPast limit 0 entries ++ blockEnd entries) before after r
       → Written 0 (blockUntilPast limit entries) before after r
   unfolding blockUntilPast
   within l w = rw (le-ltb limit (length (untilPast limit 0 entries)) (rw counted at l)) w
@@ -116,7 +116,7 @@ module _ (limit end : ℕ) (entries : List Entry) {before o₁ : List ℕ} (put 
   pub block-empty : {o₂ o₃ : List ℕ} → end ≤ limit → end ≡ 0 → o₂ ≡ set o₁ end nul → o₃ ≡ set o₂ 1 nul → Written 0 (blockUntilPast limit entries) before o₃ 2
   block-empty {o₂} {o₃} l z h₂ h₃ = within l (go entries put)
     where
-      go : (entries : List Entry) → Written 0 (untilPast limit 0 entries) before o₁ end → Written 0 (untilPast limit 0 entries ++ closing entries) before o₃ 2
+      go : (entries : List Entry) → Written 0 (untilPast limit 0 entries) before o₁ end → Written 0 (untilPast limit 0 entries ++ blockEnd entries) before o₃ 2
       go [] w = rw (none-counted limit) (record { place = omega arith; stores = rw (h₃, h₂, z, w .stores, none-counted limit) })
       go (e ∷ more) w = absurd (omega (arith, units-some limit e more, w .place))
 
@@ -124,7 +124,7 @@ module _ (limit end : ℕ) (entries : List Entry) {before o₁ : List ℕ} (put 
   pub block-full : {o₂ : List ℕ} → end ≤ limit → (end ≡ 0 → ⊥) → o₂ ≡ set o₁ end nul → Written 0 (blockUntilPast limit entries) before o₂ (end + 1)
   block-full {o₂} l z h₂ = within l (go entries put)
     where
-      go : (entries : List Entry) → Written 0 (untilPast limit 0 entries) before o₁ end → Written 0 (untilPast limit 0 entries ++ closing entries) before o₂ (end + 1)
+      go : (entries : List Entry) → Written 0 (untilPast limit 0 entries) before o₁ end → Written 0 (untilPast limit 0 entries ++ blockEnd entries) before o₂ (end + 1)
       go [] w = absurd (z (omega (arith, rw (none-counted limit) at (w .place))))
       go (e ∷ more) w =
           let units = untilPast limit 0 (e ∷ more) in
@@ -136,7 +136,7 @@ module _ (limit end : ℕ) (entries : List Entry) {before o₁ : List ℕ} (put 
 -- ---- what is counted, and the whole
 
 -- within the limit it is the whole; past the limit so is the whole
-pub record Stands (limit : ℕ) (whole counted : List ℕ) : Type 0 where
+pub record CountsFor (limit : ℕ) (whole counted : List ℕ) : Type 0 where
   pub same : length counted ≤ limit → counted ≡ whole
   pub past : limit < length counted → limit < length whole
 
@@ -146,7 +146,7 @@ unfolding entryUnits
 units-next e more = sym (append-assoc (e .key ++ equals ∷ e .value) (nul ∷ []) (entryUnits more))
 
 -- the entries' units, then what closes them
-block-is : (entries : List Entry) → block entries ≡ entryUnits entries ++ closing entries
+block-is : (entries : List Entry) → block entries ≡ entryUnits entries ++ blockEnd entries
 unfolding block entryUnits
 block-is [] = refl
 block-is (e ∷ more) = refl
@@ -174,14 +174,14 @@ all-counted limit to (e ∷ more) h = go (ltb limit (to + length (oneEntry e))) 
     go true t g ih = absurd (omega (arith, ltb-true limit (to + length (oneEntry e)) t))
     go false t g ih = ap (λ (l : List ℕ). oneEntry e ++ l) (ih (omega (arith, length-append (oneEntry e) others))) ∙ sym (units-next e more)
 
-pub stands : (limit : ℕ) (entries : List Entry) → Stands limit (block entries) (blockUntilPast limit entries)
+pub counts-for : (limit : ℕ) (entries : List Entry) → CountsFor limit (block entries) (blockUntilPast limit entries)
 unfolding blockUntilPast
-stands limit entries = go (ltb limit (length units)) refl
+counts-for limit entries = go (ltb limit (length units)) refl
   where
     units : List ℕ
     units = untilPast limit 0 entries
 
-    go : (b : Bool) → ltb limit (length units) ≡ b → Stands limit (block entries) (pick b units (units ++ closing entries))
+    go : (b : Bool) → ltb limit (length units) ≡ b → CountsFor limit (block entries) (pick b units (units ++ blockEnd entries))
     go true e =
         let l = ltb-true limit (length units) e in
         record { same = λ h. absurd (omega arith); past = λ h. rw (block-is entries, length-append) (omega (arith, no-longer limit 0 entries)) }

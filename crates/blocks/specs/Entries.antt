@@ -60,11 +60,11 @@ untilPast limit to (e ∷ more) =
     pick (ltb limit next) (oneEntry e) (oneEntry e ++ others)
 
 -- "one NUL follows the last. No entries: exactly two NULs."
-abbrev pub closing : List Entry → List ℕ
-closing [] = nul ∷ nul ∷ []
-closing (e ∷ more) = nul ∷ []
+abbrev pub blockEnd : List Entry → List ℕ
+blockEnd [] = nul ∷ nul ∷ []
+blockEnd (e ∷ more) = nul ∷ []
 
 -- a block as far as it is counted: whole where it is within the limit
 unfoldable pub blockUntilPast : ℕ → List Entry → List ℕ
 unfolding untilPast
-blockUntilPast limit entries = let units = untilPast limit 0 entries in pick (ltb limit (length units)) units (units ++ closing entries)
+blockUntilPast limit entries = let units = untilPast limit 0 entries in pick (ltb limit (length units)) units (units ++ blockEnd entries)

@@ -15,7 +15,7 @@ use Rattle.laws.specs.Scan.{leading}
 use Rattle.laws.specs.Store.{sets-append, sets-out, sets-rest}
 use Rattle.laws.specs.Run.{startsWith, stops-at}
 use Rattle.reading.specs.Laid.{Laid}
-use Rattle.arguments.specs.Next.{first, further, OneRead}
+use Rattle.arguments.specs.Next.{firstArgument, laterArgument, OneRead}
 use Rattle.arguments.specs.Split as N
 
 -- the later arguments that are still to be read behind i units of a line
@@ -43,7 +43,7 @@ clear-at line i j e = rw e (stops-at isBlank line i refl)
 
 -- no argument is lost with them
 pub skips-to : (line : List ℕ) (i j : ℕ) → j ≡ i + leading isBlank (drop i line) → left line i ≡ left line j
-skips-to line i j e = N.skips (drop i line) ∙ rw (drop-drop, ← e)
+skips-to line i j e = N.skips-blanks (drop i line) ∙ rw (drop-drop, ← e)
 
 -- i units of the line are used, n units and count arguments are written; what is left goes behind them
 pub record Laying (line text₀ spans₀ : List ℕ) (n₀ count₀ i₀ : ℕ) (text spans : List ℕ) (n count i : ℕ) : Type 0 where
@@ -79,14 +79,14 @@ module _ {line text₀ spans₀ : List ℕ} {n₀ count₀ i₀ : ℕ} {text spa
   spans-length = sym (length-sets spans (2 * count) (spansFrom n (left line i))) ∙ ap length (r .tabulates) ∙ length-sets spans₀ (2 * count₀) (spansFrom n₀ (left line i₀))
 
   -- one argument more, read from the rest of the line into the rest of the text
-  pub turn : {part part′ text′ spans′ : List ℕ} {used units : ℕ} (from j : ℕ) → i < length line → OneRead (further false (drop i line)) (drop i line) part part′ used units
+  pub turn : {part part′ text′ spans′ : List ℕ} {used units : ℕ} (from j : ℕ) → i < length line → OneRead (laterArgument false (drop i line)) (drop i line) part part′ used units
       → part ≡ drop from text → text′ ≡ take from text ++ part′ → from ≡ min n (length text) → spans′ ≡ sets spans (2 * count) (n ∷ units ∷ [])
       → j ≡ i + used + leading isBlank (drop (i + used) line) → j ≤ length line
       → Laying line text₀ spans₀ n₀ count₀ i₀ text′ spans′ (n + units) (count + 1) j
   turn {text′ = text′} {used = used} {units = units} from j z o d t f s e h =
-      let a = further false (drop i line) .argument in
+      let a = laterArgument false (drop i line) .argument in
       let more = left line j in
-      let behind : drop (i + used) line ≡ further false (drop i line) .behind = rw drop-drop at (o .behind) in
+      let behind : drop (i + used) line ≡ laterArgument false (drop i line) .behind = rw drop-drop at (o .behind) in
       let some : 0 < length (drop i line) = rw length-drop (omega arith) in
       let l : left line i ≡ a ∷ more = N.begins (drop i line) some (r .clear) ∙ ap (λ (x : List (List ℕ)). a ∷ x) (ap (later between 0 []) (sym behind) ∙ skips-to line (i + used) j e) in
       let w : text′ ≡ sets text n a = t ∙ rw (o .stores, d) (sets-in text a n from f) in
@@ -103,11 +103,11 @@ module _ {line text₀ spans₀ : List ℕ} {n₀ count₀ i₀ : ℕ} {text spa
       }
 
 -- the end of the line: with argument 0 before them, all are laid out
-pub finishes : {line text₀ text₁ spans₀ spans₁ text spans : List ℕ} {n₀ i₀ n count i : ℕ} (b : ℕ) → OneRead (first false line) line text₀ text₁ b n₀ → spans₁ ≡ sets spans₀ (2 * 0) (0 ∷ n₀ ∷ [])
+pub finishes : {line text₀ text₁ spans₀ spans₁ text spans : List ℕ} {n₀ i₀ n count i : ℕ} (b : ℕ) → OneRead (firstArgument false line) line text₀ text₁ b n₀ → spans₁ ≡ sets spans₀ (2 * 0) (0 ∷ n₀ ∷ [])
     → i₀ ≡ b + leading isBlank (drop b line) → Laying line text₁ spans₁ n₀ 1 i₀ text spans n count i → length line ≤ i → Laid (arguments line) text₀ text spans₀ spans count n
 unfolding arguments
 finishes {line} {text₀} {text₁} {spans₀} {spans₁} {text} {spans} {n₀} {i₀} {n} {count} {i} b m s e r h =
-    let none : left line i ≡ [] = rw (drop-of-length-le line h) N.none-left in
+    let none : left line i ≡ [] = rw (drop-of-length-le line h) N.nothing-left in
     let a = argument0 false line in
     let all : later between 0 [] (behind0 false line) ≡ left line i₀ = ap (later between 0 []) (sym (m .behind)) ∙ skips-to line b i₀ e in
     rw all

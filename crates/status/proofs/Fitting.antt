@@ -13,7 +13,7 @@ use Rattle.rules.specs.declared.Refusal.the-variants as Refusal
 use Rattle.rules.specs.Answer.{Answered, Said, filledSaid}
 use Rattle.rules.specs.Unit.{units}
 use Rattle.rules.specs.Status.{statusText, statusFront, statusOutcome}
-use Rattle.status.specs.Text.{Laid, fitted}
+use Rattle.status.specs.Text.{DigitsLaid, fitted}
 use Rattle.status.proofs.Laying.{enough}
 
 module _ (front digits before : List ℕ) where
@@ -45,14 +45,14 @@ of-status status e h = rw (outcome-is, e) h
 
 module _ (status : ℕ) (at : ℕ) (lent places : List ℕ) where
   -- below the middle: decimal
-  pub decimal-text : status < 2147483648 → Laid 10 status at lent places → statusText status ≡ units "exit code: " ++ take (10 - at) (drop at places)
+  pub decimal-text : status < 2147483648 → DigitsLaid 10 status at lent places → statusText status ≡ units "exit code: " ++ take (10 - at) (drop at places)
   unfolding statusText statusFront units
   decimal-text h l =
       let e : take (10 - at) (drop at places) ≡ drop at places = rw (l .ten) at (part-is at places) in
       rw (lt-ltb status 2147483648 h, e, l .holds)
 
   -- from the middle on: hexadecimal
-  pub hexadecimal-text : 2147483648 ≤ status → status < 2 ^ 32 → Laid 16 status at lent places → statusText status ≡ units "exit code: 0x" ++ take (10 - at) (drop at places)
+  pub hexadecimal-text : 2147483648 ≤ status → status < 2 ^ 32 → DigitsLaid 16 status at lent places → statusText status ≡ units "exit code: 0x" ++ take (10 - at) (drop at places)
   unfolding statusText statusFront units
   hexadecimal-text h f l =
       let e : take (10 - at) (drop at places) ≡ drop at places = rw (l .ten) at (part-is at places) in

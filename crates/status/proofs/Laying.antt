@@ -9,7 +9,7 @@ use lib.Seq.{drop-cons, getD-set-same, drop-set-lt, take-set-le, take-take}
 use borrow.Author.Tests.{lt-ltb, le-ltb}
 use Rattle.rules.specs.Status.{glyph, digits}
 use Rattle.laws.specs.Digits.{fewer}
-use Rattle.status.specs.Text.{Laid}
+use Rattle.status.specs.Text.{DigitsLaid}
 
 -- ---- the digits of a number
 
@@ -89,7 +89,7 @@ one-laid {base} {number} {left} {at} {before} {places} b h l = go (l .fuel) (l .
 
 -- the first digit ends it
 pub all-laid : {base number left at : ℕ} {before places : List ℕ} → left < base → Laying base number left at before places
-    → Laid base number (at - 1) before (set places (at - 1) (glyph left))
+    → DigitsLaid base number (at - 1) before (set places (at - 1) (glyph left))
 all-laid {base} {number} {left} {at} {before} {places} h l =
     let p : at - 1 ≡ l .fuel = omega (arith, l .next) in
     let m : l .fuel < length places = omega (arith, l .ten, l .within, l .next) in

@@ -5,7 +5,7 @@ ghost use Prim.Native.Nat.{_<_, _≤_};
 ghost use lib.ListN.{length};
 ghost use Rattle.rules.specs.Answer.{Answered, filledSaid};
 ghost use Rattle.rules.specs.Status.{glyph, statusOutcome, signedCode};
-ghost use Rattle.status.specs.Text.{Laid, fitted};
+ghost use Rattle.status.specs.Text.{DigitsLaid, fitted};
 use rules::Filled;
 use rules::Refusal;
 use units::stores::copy_run;
@@ -32,7 +32,7 @@ fn glyph_of(digit: u32) -> u16
 // that they are laid before it is known how many there are.
 fn lay_digits(base: u32, number: u32, places: &mut [u16; 10]) -> usize
     requires { ⌜ (10 ≤ base) × (base ≤ 16) × (length (now places) ≡ 10) ⌝ }
-    ensures { λ r. ⌜ Laid base number r (now (places .entry)) (now (places .exit)) ⌝ }
+    ensures { λ r. ⌜ DigitsLaid base number r (now (places .entry)) (now (places .exit)) ⌝ }
 {
     let mut left = number;
     let mut at = 10;

@@ -10,14 +10,14 @@ use lib.Seq.{sets}
 use Rattle.laws.specs.Run.{RunAt, part-run, run-at, startsWith, stops-at}
 use Rattle.arguments.specs.Run.{isKept}
 use Rattle.arguments.proofs.First as F
-use Rattle.arguments.specs.Next.{first}
+use Rattle.arguments.specs.Next.{firstArgument}
 use Rattle.arguments.proofs.Still as still
 use Rattle.arguments.proofs.Still.{Still}
 use Rattle.arguments.proofs.read_first.Statement.{statement}
 use Rattle.arguments.proofs.read_first.Tie as tie
 
 abbrev Inv-loop : tie.InvT-loop
-Inv-loop line out₀ i₀ n₀ quoted₀ out i n quoted = Still first line out₀ out i n quoted
+Inv-loop line out₀ i₀ n₀ quoted₀ out i n quoted = Still firstArgument line out₀ out i n quoted
 
 abbrev μ-loop : tie.MeasureT-loop
 μ-loop line out₀ i₀ n₀ quoted₀ out i n quoted = length line - i
@@ -45,7 +45,7 @@ found c = c .before .before .before .before .before
 
 -- what is left behind it
 kept : (c : tie.After-slice-known2 Inv-loop μ-loop)
-    → Still first (line (found c)) (found c .before .before .before .before .before .before .args .out .now) (c .before .before .copy-run .last .0) (turn (found c) .loop .i + found c .kept-run .result) (turn (found c) .loop .n + found c .kept-run .result) (turn (found c) .loop .quoted)
+    → Still firstArgument (line (found c)) (found c .before .before .before .before .before .before .args .out .now) (c .before .before .copy-run .last .0) (turn (found c) .loop .i + found c .kept-run .result) (turn (found c) .loop .n + found c .kept-run .result) (turn (found c) .loop .quoted)
 kept c =
     let l = turn (found c) .loop in
     let run = found c .kept-run .result in

@@ -4,7 +4,7 @@ use native.Mathlib.Omega.{arith}
 use mathlib.Core.Path.{_∙_, sym}
 use Prim.Native.Nat.{_-_}
 use lib.ListN.{drop, getD, length, length-drop}
-use Rattle.arguments.specs.Next.{further}
+use Rattle.arguments.specs.Next.{laterArgument}
 use Rattle.arguments.specs.Step.{stepAt}
 use Rattle.arguments.proofs.Next.{ends-line, stops}
 use Rattle.arguments.proofs.Step.{Steps, steps-at, turn}
@@ -14,7 +14,7 @@ use Rattle.arguments.proofs.read_later.Statement.{statement}
 use Rattle.arguments.proofs.read_later.Tie as tie
 
 abbrev Inv-loop : tie.InvT-loop
-Inv-loop rest out₀ here₀ out here = Still further rest out₀ out (here .used) (here .units) (here .quoted)
+Inv-loop rest out₀ here₀ out here = Still laterArgument rest out₀ out (here .used) (here .units) (here .quoted)
 
 abbrev μ-loop : tie.MeasureT-loop
 μ-loop rest out₀ here₀ out here = length rest - here .used

@@ -1,64 +1,15 @@
 -- `aslapush::aslapush_argument` meets its contract. Assumes nothing.
 use borrow.Author.Needs.{needs}
-use native.Mathlib.Omega.{arith}
-use Prim.Native.Nat.{_*_, _+_}
-use Rattle.aslapush.proofs.Spans.{span-is, span-none, span-past}
+use mathlib.Core.Path.{ap}
+use Rattle.aslapush.specs.Export.{startAndLength}
 use Rattle.aslapush.proofs.aslapush_argument.Statement.{statement}
 use Rattle.aslapush.proofs.aslapush_argument.Tie as tie
 
-mul-start : tie.Need-mul-start
-mul-start c = search needs
-
-mul-start-2 : tie.Need-mul-start-2
-mul-start-2 c = search needs
-
-shared-slice-read-start : tie.Need-shared-slice-read-start
-shared-slice-read-start c = search needs
-
-cast-start : tie.Need-cast-start
-cast-start c = omega (arith, c .shared-slice-known .given (2 * c .before .before .before .args .index))
-
-mul-len : tie.Need-mul-len
-mul-len c = search needs
-
-add-len : tie.Need-add-len
-add-len c = search needs
-
-mul-len-2 : tie.Need-mul-len-2
-mul-len-2 c = search needs
-
-shared-slice-read-len : tie.Need-shared-slice-read-len
-shared-slice-read-len c = search needs
-
-cast-len : tie.Need-cast-len
-cast-len c = omega (arith, c .shared-slice-known2 .given (2 * c .before .before .before .before .args .index + 1))
-
-add-if2 : tie.Need-add-if2
-add-if2 c = omega (arith, c .before .shared-slice-known .given (2 * c .before .before .before .before .args .index), c .shared-slice-known2 .given (2 * c .before .before .before .before .args .index + 1))
+span-of-requires : tie.Need-span-of-requires
+span-of-requires c κs = search needs
 
 returns : tie.Need-returns
-returns c = span-is _ _ _ (search needs) (search needs)
-
-returns-2 : tie.Need-returns-2
-returns-2 c = span-past _ _ _ (search needs) (search needs)
-
-returns-3 : tie.Need-returns-3
-returns-3 c = span-none _ _ _ (search needs)
+returns c = ap startAndLength (c .before .span-of .ensures)
 
 pub aslapush-argument-spec : {M : Type 1} → statement M
-aslapush-argument-spec =
-    tie.close
-    (tie.spec
-    mul-start
-    mul-start-2
-    shared-slice-read-start
-    cast-start
-    mul-len
-    add-len
-    mul-len-2
-    shared-slice-read-len
-    cast-len
-    add-if2
-    returns
-    returns-2
-    returns-3)
+aslapush-argument-spec = tie.close (tie.spec span-of-requires returns)

@@ -3,7 +3,7 @@ use borrow.Author.Needs.{needs}
 use native.Mathlib.Omega.{arith}
 use mathlib.Core.Path.{_∙_, ap}
 use lib.Seq.{sets}
-use Rattle.arguments.specs.Run.{isPlain}
+use Rattle.arguments.specs.Run.{isTaken}
 use Rattle.laws.specs.Run.{RunAt, part-run, run-at}
 use Rattle.arguments.proofs.Step.{at-mark, at-slash, plain}
 use Rattle.arguments.proofs.steps.read_step.Statement.{statement}
@@ -16,10 +16,10 @@ start c =
     at-if1 .before .before .before .before
 
 -- the run of plain units at the point
-run-is : (c : tie.After-plain-run) → RunAt (isPlain (start c .args .here .quoted)) (start c .args .rest .now) (start c .args .here .used) (c .plain-run .result)
+run-is : (c : tie.After-plain-run) → RunAt (isTaken (start c .args .here .quoted)) (start c .args .rest .now) (start c .args .here .used) (c .plain-run .result)
 run-is c =
     let a = start c .args in
-    run-at (isPlain (a .here .quoted)) (a .rest .now) (a .here .used) (omega (arith, start c .pre)) (c .plain-run .ensures)
+    run-at (isTaken (a .here .quoted)) (a .rest .now) (a .here .used) (omega (arith, start c .pre)) (c .plain-run .ensures)
 
 mul-if1 : tie.Need-mul-if1
 mul-if1 c = search needs
