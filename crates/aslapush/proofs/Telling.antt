@@ -1,6 +1,5 @@
 -- Answers told in numbers: what an answer says is what is told. Assumes nothing.
 use Prim.Native.Nat.{ℕ}
-use mathlib.Core.Path.{_≡_}
 use mathlib.Core.List.{List}
 use Rattle.rules.specs.declared.Parsed.{Parsed}
 use Rattle.rules.specs.Outcome.{Outcome}
