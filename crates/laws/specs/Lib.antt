@@ -1,3 +1,4 @@
+pub mod Any
 pub mod Store
 pub mod Placed
 pub mod Equal

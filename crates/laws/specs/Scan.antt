@@ -1,17 +1,18 @@
 -- Runs of units that pass a test, at the front and at the end of a list, met one unit after another. Assumes nothing.
-use Prim.Native.Nat.{ℕ, zero, suc, _+_, _-_, _≤_, min, _<_, zero-le, compare·suc-suc}
+use Prim.Native.Nat.{ℕ, zero, suc, _+_, _-_, _≤_, min, _<_, zero-le}
 use native.Mathlib.Numerals.{add-one}
 use native.Mathlib.Omega.{arith}
 use mathlib.Core.Path.{_≡_, refl, sym, _∙_}
-use borrow.Author.Tests.{lt-ltb}
-use mathlib.Core.Bool.{Bool, true, false, _&&_}
+use mathlib.Core.Bool.{Bool, true, false}
 use mathlib.Core.List.{List, [], _∷_, _++_}
-use lib.Dec.{ltb, eqb}
-use lib.ListN.{length, getD, take, drop, drop-of-length-le}
-use lib.Seq.{drop-cons, take-suc, take-length}
-use Rattle.laws.specs.Choice.{both-true}
+use lib.Dec.{eqb}
+use lib.ListN.{length, getD, take, drop, drop-of-length-le, take-append-drop}
+use lib.Seq.{drop-cons, drop-drop, take-suc, take-length}
+use Rattle.laws.specs.Any.{part-length, twice}
+use Rattle.laws.specs.Choice.{apart}
+use Rattle.rules.specs.Record.{part}
 use Rattle.laws.specs.Store.{part-is}
-use Rattle.rules.specs.Choice.{pick, either, both, flip, any}
+use Rattle.rules.specs.Choice.{pick, either, flip, any}
 
 -- how many elements at the front pass the test
 unfoldable pub leading : (ℕ → Bool) → List ℕ → ℕ
@@ -22,9 +23,17 @@ leading p (x ∷ xs) = pick (p x) (suc (leading p xs)) 0
 abbrev pub before : (ℕ → Bool) → List ℕ → ℕ
 before p xs = leading (λ x. flip (p x)) xs
 
+-- the unit is x
+abbrev pub isUnit : ℕ → ℕ → Bool
+isUnit x y = eqb y x
+
+-- the unit is a or b
+abbrev pub isEither : ℕ → ℕ → ℕ → Bool
+isEither a b x = either (isUnit a x) (isUnit b x)
+
 -- the unit is one of four
 abbrev pub isOneOf : ℕ → ℕ → ℕ → ℕ → ℕ → Bool
-isOneOf a b c d x = either (either (eqb x a) (eqb x b)) (either (eqb x c) (eqb x d))
+isOneOf a b c d x = either (isEither a b x) (isEither c d x)
 
 -- how many elements at the end pass the test, where k before them do
 unfoldable pub trailingFrom : (ℕ → Bool) → ℕ → List ℕ → ℕ
@@ -83,43 +92,24 @@ leading-in p (x ∷ xs) = go (p x) (leading-in p xs)
     go true h = omega arith
     go false h = omega arith
 
--- ---- eight at once
+-- ---- many at once
 
--- the eight elements from a place on pass the test
-abbrev pub eight : (ℕ → Bool) → List ℕ → ℕ → Bool
-eight p xs i =
-    both (both (both (both (both (both (both (p (getD xs i 0)) (p (getD xs (i + 1) 0))) (p (getD xs (i + 2) 0))) (p (getD xs (i + 3) 0)))
-    (p (getD xs (i + 4) 0))) (p (getD xs (i + 5) 0))) (p (getD xs (i + 6) 0))) (p (getD xs (i + 7) 0))
+module _ (p : ℕ → Bool) where
+  -- a run goes on behind elements of which none passes the other test
+  leading-on : (us vs : List ℕ) → any p us ≡ false → before p (us ++ vs) ≡ length us + before p vs
+  unfolding leading
+  leading-on [] vs h = omega arith
+  leading-on (x ∷ us) vs h = let (e, g) = apart true (p x) (any p us) h in rw e (omega (arith, leading-on us vs g))
 
--- eight tests made in a row, as the code joins them
-pub eight-is : (p : ℕ → Bool) (xs : List ℕ) (i : ℕ) {a b c d e f g h : Bool} → a ≡ p (getD xs i 0) → b ≡ p (getD xs (i + 1) 0) → c ≡ p (getD xs (i + 2) 0)
-    → d ≡ p (getD xs (i + 3) 0) → e ≡ p (getD xs (i + 4) 0) → f ≡ p (getD xs (i + 5) 0) → g ≡ p (getD xs (i + 6) 0) → h ≡ p (getD xs (i + 7) 0)
-    → a && b && c && d && e && f && g && h ≡ eight p xs i
-eight-is p xs i ea eb ec ed ee ef eg eh = rw (ea, eb, ec, ed, ee, ef, eg, eh)
+  -- elements of which none passes the other test are passed at once
+  pub many-more : (xs : List ℕ) (i n : ℕ) → Passed (λ x. flip (p x)) xs i → i + n ≤ length xs → any p (part xs i n) ≡ false → Passed (λ x. flip (p x)) xs (i + n)
+  unfolding Passed
+  many-more xs i n h l e =
+      let c : drop i xs ≡ part xs i n ++ drop (i + n) xs = sym (take-append-drop n (drop i xs)) ∙ rw drop-drop in
+      let s : before p (drop i xs) ≡ n + before p (drop (i + n) xs) = rw c (rw (part-length xs i n l) at (leading-on (part xs i n) (drop (i + n) xs) e)) in
+      (l, omega (arith, h .1, s))
 
 module _ (p : ℕ → Bool) (xs : List ℕ) where
-  next : (i j k : ℕ) → j + 1 ≡ k → Passed p xs (i + j) → i + j < length xs → p (getD xs (i + j) 0) ≡ true → Passed p xs (i + k)
-  next i j k s h l e = let n : i + j + 1 ≡ i + k = omega arith in rw n at (one-more p xs (i + j) h l e)
-
-  -- eight that pass
-  pub eight-more : (i : ℕ) → Passed p xs i → i + 8 ≤ length xs → eight p xs i ≡ true → Passed p xs (i + 8)
-  eight-more i h l e =
-      let (e₇, p₇) = both-true _ _ e in
-      let (e₆, p₆) = both-true _ _ e₇ in
-      let (e₅, p₅) = both-true _ _ e₆ in
-      let (e₄, p₄) = both-true _ _ e₅ in
-      let (e₃, p₃) = both-true _ _ e₄ in
-      let (e₂, p₂) = both-true _ _ e₃ in
-      let (p₀, p₁) = both-true _ _ e₂ in
-      let h₁ = one-more p xs i h (omega arith) p₀ in
-      let h₂ = next i 1 2 refl h₁ (omega arith) p₁ in
-      let h₃ = next i 2 3 refl h₂ (omega arith) p₂ in
-      let h₄ = next i 3 4 refl h₃ (omega arith) p₃ in
-      let h₅ = next i 4 5 refl h₄ (omega arith) p₄ in
-      let h₆ = next i 5 6 refl h₅ (omega arith) p₅ in
-      let h₇ = next i 6 7 refl h₆ (omega arith) p₆ in
-      next i 7 8 refl h₇ (omega arith) p₇
-
   -- what is left is the run of the rest, lent as a part
   pub rest-passed : (i : ℕ) {r : ℕ} → Passed p xs i → r ≡ leading p (take (length xs - i) (drop i xs)) → i + r ≡ leading p xs
   unfolding Passed
@@ -128,16 +118,6 @@ module _ (p : ℕ → Bool) (xs : List ℕ) where
   -- and it ends within the list
   pub rest-within : (i : ℕ) {r : ℕ} → Passed p xs i → r ≡ leading p (take (length xs - i) (drop i xs)) → i + r ≤ length xs
   rest-within i h e = rw (rest-passed i h e) (leading-in p xs)
-
--- an element passes the test exactly if the first such is before the end
-pub any-before : (p : ℕ → Bool) (xs : List ℕ) → any p xs ≡ ltb (before p xs) (length xs)
-unfolding leading
-any-before p [] = refl
-any-before p (x ∷ xs) = go (p x) (any-before p xs)
-  where
-    go : (b : Bool) → any p xs ≡ ltb (before p xs) (length xs) → either b (any p xs) ≡ ltb (pick (flip b) (suc (before p xs)) 0) (suc (length xs))
-    go true h = sym (lt-ltb 0 (suc (length xs)) (omega arith))
-    go false h = rw compare·suc-suc h
 
 -- ---- a front of the list
 
@@ -170,21 +150,9 @@ unfolding leading
 leading-same p q h [] = refl
 leading-same p q h (x ∷ xs) = rw (h x, leading-same p q h xs)
 
-twice : (a : Bool) → either a a ≡ a
-twice true = refl
-twice false = refl
-
--- two units looked for, each named twice
-pub before-two : (a b : ℕ) (xs : List ℕ) → before (isOneOf a b a b) xs ≡ before (λ x. either (eqb x a) (eqb x b)) xs
-before-two a b xs = leading-same _ _ (λ x. rw (twice (either (eqb x a) (eqb x b)))) xs
-
 -- one unit looked for, named four times
-pub before-one : (a : ℕ) (xs : List ℕ) → before (isOneOf a a a a) xs ≡ before (λ x. eqb x a) xs
-before-one a xs = before-two a a xs ∙ leading-same _ _ (λ x. rw (twice (eqb x a))) xs
-
--- whether the place of the first that passes is before the end says whether there is one
-pub found-any : (p : ℕ → Bool) (xs : List ℕ) {i : ℕ} → i ≡ before p xs → ltb i (length xs) ≡ any p xs
-found-any p xs e = rw e (sym (any-before p xs))
+pub before-one : (a : ℕ) (xs : List ℕ) → before (isOneOf a a a a) xs ≡ before (isUnit a) xs
+before-one a xs = leading-same _ _ (λ x. rw (twice (isEither a a x), twice (isUnit a x))) xs
 
 -- ---- the run at the end
 

@@ -6,7 +6,9 @@ use native.Mathlib.Omega.{arith}
 use mathlib.Core.Path.{_≡_, refl, sym, ap, _∙_}
 use mathlib.Core.List.{List, [], _∷_, _++_, append-nil}
 use lib.ListN.{length, getD, take, drop, set, replicate, length-drop, drop-of-length-le, take-append-drop}
-use lib.Seq.{sets, sets-eq, set-out, length-take-le, drop-cons, take-all}
+use lib.Seq.{sets, sets-eq, set-out, set-set, set-comm, length-take-le, drop-cons, take-all, take-add}
+use Rattle.rules.specs.Record.{part}
+use Rattle.laws.specs.Any.{four-units, part-length, parts-join}
 
 module _ {A : Type 0} where
   -- what u and then v store is what u ++ v stores
@@ -22,6 +24,20 @@ module _ {A : Type 0} where
   -- where there is room, what is stored from the front on is the front
   pub sets-front : (d v : List A) → length v ≤ length d → sets d 0 v ≡ v ++ drop (length v) d
   sets-front d v h = let z : 0 + length v ≡ length v = zero-add _ in rw z at (sets-eq v d 0 (omega arith))
+
+  -- a store in front of others can come last
+  set-last : (d : List A) (i j : ℕ) (a : A) (v : List A) → i < j → set (sets d j v) i a ≡ sets (set d i a) j v
+  set-last d i j a [] h = refl
+  set-last d i j a (b ∷ v) h = set-last (set d j b) i (suc j) a v (omega arith) ∙ rw (set-comm d j i b a (λ e. omega arith))
+
+  -- what is stored once more changes nothing
+  sets-twice : (d : List A) (i : ℕ) (v : List A) → sets (sets d i v) i v ≡ sets d i v
+  sets-twice d i [] = refl
+  sets-twice d i (a ∷ v) = rw (set-last (set d i a) i (suc i) a v (omega arith), set-set) (sets-twice (set d i a) (suc i) v)
+
+  -- stores that begin where others have stored the same already
+  pub sets-over : (d : List A) (i : ℕ) (u v : List A) → sets (sets d i u) i (u ++ v) ≡ sets d i (u ++ v)
+  sets-over d i u v = sets-append (sets d i u) i u v ∙ rw (sets-twice d i u) (sym (sets-append d i u v))
 
   set-behind : (p r : List A) (j : ℕ) (a : A) → set (p ++ r) (length p + j) a ≡ p ++ set r j a
   set-behind [] r j a = rw zero-add
@@ -58,3 +74,36 @@ copy-turn out to i xs h = rw (add-one i, add-one to, drop-cons xs i 0)
 pub repeat-turn : (out : List ℕ) (to n x : ℕ) → 0 < n → sets out to (replicate n x) ≡ sets (set out to x) (to + 1) (replicate (n - 1) x)
 repeat-turn out to zero x h = absurd (omega arith)
 repeat-turn out to (suc n) x h = let e : suc n - 1 ≡ n = omega arith in rw (e, add-one)
+
+-- ---- copies by parts
+
+-- a part of a run, and then the part behind it
+pub parts-stored : (d : List ℕ) (to : ℕ) (xs : List ℕ) (i m n : ℕ) → i + m ≤ length xs
+    → sets (sets d to (part xs i m)) (to + m) (part xs (i + m) n) ≡ sets d to (part xs i (m + n))
+parts-stored d to xs i m n h = rw (parts-join xs i m n, sets-append d to (part xs i m) (part xs (i + m) n), part-length xs i m h)
+
+-- so many units of a run from a place on, and then a part right behind
+pub part-more : (d : List ℕ) (at : ℕ) (xs : List ℕ) (i n : ℕ) → i ≤ length xs → sets (sets d at (take i xs)) (at + i) (part xs i n) ≡ sets d at (take (i + n) xs)
+part-more d at xs i n h = rw (take-add i n xs, sets-append d at (take i xs) (take n (drop i xs)), length-take-le i xs h)
+
+-- the last part of a run, which may begin among those that are stored, ends it
+pub last-over : (d : List ℕ) (at : ℕ) (xs : List ℕ) (i j : ℕ) → j ≤ i → j ≤ length xs → sets (sets d at (take i xs)) (at + j) (drop j xs) ≡ sets d at xs
+last-over d at xs i j l h =
+    let e : j + (i - j) ≡ i = omega arith in
+    let u = take j xs in
+    let v = take (i - j) (drop j xs) in
+    let s : sets d at (take i xs) ≡ sets (sets d at u) (at + j) v = sym (rw e at (part-more d at xs j (i - j) h)) in
+    let c : v ++ drop (i - j) (drop j xs) ≡ drop j xs = take-append-drop (i - j) (drop j xs) in
+    let o : sets (sets (sets d at u) (at + j) v) (at + j) (drop j xs) ≡ sets (sets d at u) (at + j) (drop j xs) =
+    rw c at (sets-over (sets d at u) (at + j) v (drop (i - j) (drop j xs))) in
+    let w : sets (sets d at u) (at + j) (drop j xs) ≡ sets d at xs = rw (take-append-drop j xs, length-take-le j xs h) at (sym (sets-append d at u (drop j xs))) in
+    rw s (o ∙ w)
+
+-- four stores in a row, as the code has them
+pub four-stored : (d : List ℕ) (to : ℕ) (xs : List ℕ) (i : ℕ) → i + 4 ≤ length xs
+    → set (set (set (set d to (getD xs i 0)) (to + 1) (getD xs (i + 1) 0)) (to + 2) (getD xs (i + 2) 0)) (to + 3) (getD xs (i + 3) 0) ≡ sets d to (part xs i 4)
+four-stored d to xs i h =
+    let e₁ : to + 1 ≡ suc to = omega arith in
+    let e₂ : to + 2 ≡ suc (suc to) = omega arith in
+    let e₃ : to + 3 ≡ suc (suc (suc to)) = omega arith in
+    rw (four-units xs i h, e₁, e₂, e₃)

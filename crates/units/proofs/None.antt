@@ -1,9 +1,10 @@
--- Tests that a unit is none of some. Assumes nothing.
+-- Tests that a number is none of some. Assumes nothing.
 use mathlib.Core.Path.{_≡_, refl}
 use mathlib.Core.Bool.{Bool, true, false, not, _&&_}
 use Rattle.rules.specs.Choice.{either, flip}
 
-neither : (a b : Bool) → not a && not b ≡ flip (either a b)
+-- neither of two
+pub neither : (a b : Bool) → not a && not b ≡ flip (either a b)
 neither true b = refl
 neither false true = refl
 neither false false = refl

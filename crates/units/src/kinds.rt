@@ -19,11 +19,5 @@ pub fn is_regular(kind: u32) -> bool
 pub fn is_no_kind(kind: u32) -> bool
     ensures { λ r. ⌜ r ≡ isNoKind kind ⌝ }
 {
-    if is_regular(kind) {
-        return false;
-    }
-    if kind == RAW {
-        return false;
-    }
-    true
+    !is_regular(kind) & (kind != RAW)
 }

@@ -1,4 +1,4 @@
-// Units: their classes, parts of a lent text, scans over lent units, stores into lent units, and a refusal's number and place.
+// Units: their classes, the kinds of argument records, parts of a lent text, scans over lent units, stores into lent units, and a refusal's number and place.
 pub mod classes;
 pub mod kinds;
 pub mod parts;

@@ -3,8 +3,9 @@ ghost use mathlib.Core.Path.{_≡_};
 ghost use Prim.Native.Nat.{_+_, _≤_};
 ghost use lib.ListN.{length};
 ghost use Rattle.rules.specs.Choice.{any, flip};
+ghost use Rattle.rules.specs.Record.{part};
 ghost use Rattle.rules.specs.Unit.{isNul, isLineBreak, isBlank, isQuote, isBackslash};
-ghost use Rattle.laws.specs.Scan.{leading, before, eight, isOneOf};
+ghost use Rattle.laws.specs.Scan.{leading, before, isUnit, isEither, isOneOf};
 
 // Whether a unit is a blank: space or tab.
 pub fn is_blank(unit: u16) -> bool
@@ -14,6 +15,110 @@ pub fn is_blank(unit: u16) -> bool
         return true;
     }
     unit == 9
+}
+
+// Whether one of the four units from a place on is x. No branch stands between the tests, so that the machine makes them at once.
+fn four_have(units: &[u16], at: usize, x: u16) -> bool
+    requires { ⌜ at + 4 ≤ length (now units) ⌝ }
+    ensures { λ r. ⌜ r ≡ any (isUnit x) (part (now (units .entry)) at 4) ⌝ }
+{
+    (units[at] == x) | (units[at + 1] == x) | (units[at + 2] == x) | (units[at + 3] == x)
+}
+
+// Whether one of the eight units from a place on is x.
+fn eight_have(units: &[u16], at: usize, x: u16) -> bool
+    requires { ⌜ at + 8 ≤ length (now units) ⌝ }
+    ensures { λ r. ⌜ r ≡ any (isUnit x) (part (now (units .entry)) at 8) ⌝ }
+{
+    four_have(units, at, x) | four_have(units, at + 4, x)
+}
+
+// Whether one of the four units from a place on is a or b.
+fn four_have_either(units: &[u16], at: usize, a: u16, b: u16) -> bool
+    requires { ⌜ at + 4 ≤ length (now units) ⌝ }
+    ensures { λ r. ⌜ r ≡ any (isEither a b) (part (now (units .entry)) at 4) ⌝ }
+{
+    four_have(units, at, a) | four_have(units, at, b)
+}
+
+// Whether one of the eight units from a place on is a or b. The tests for a stand together, because the machine joins those of one unit.
+pub fn eight_have_either(units: &[u16], at: usize, a: u16, b: u16) -> bool
+    requires { ⌜ at + 8 ≤ length (now units) ⌝ }
+    ensures { λ r. ⌜ r ≡ any (isEither a b) (part (now (units .entry)) at 8) ⌝ }
+{
+    eight_have(units, at, a) | eight_have(units, at, b)
+}
+
+// Whether a unit is a or b, for few units: one after another.
+fn few_have_either(units: &[u16], a: u16, b: u16) -> bool
+    ensures { λ r. ⌜ r ≡ any (isEither a b) (now (units .entry)) ⌝ }
+{
+    let mut i = 0;
+    while i < units.len() {
+        if (units[i] == a) | (units[i] == b) {
+            return true;
+        }
+        i += 1;
+    }
+    false
+}
+
+// Whether a unit is a or b, for eight units or more: by eights, the last of which ends with the units and overlaps the one before.
+fn many_have_either(units: &[u16], a: u16, b: u16) -> bool
+    requires { ⌜ 8 ≤ length (now units) ⌝ }
+    ensures { λ r. ⌜ r ≡ any (isEither a b) (now (units .entry)) ⌝ }
+{
+    let last = units.len() - 8;
+    let mut i = 0;
+    while i < last {
+        if eight_have_either(units, i, a, b) {
+            return true;
+        }
+        i += 8;
+    }
+    eight_have_either(units, last, a, b)
+}
+
+// Whether a unit is a or b. Where one unit is looked for, it is named twice.
+pub fn has_either(units: &[u16], a: u16, b: u16) -> bool
+    ensures { λ r. ⌜ r ≡ any (isEither a b) (now (units .entry)) ⌝ }
+{
+    if 8 <= units.len() {
+        return many_have_either(units, a, b);
+    }
+    if 4 <= units.len() {
+        let last = units.len() - 4;
+        return four_have_either(units, 0, a, b) | four_have_either(units, last, a, b);
+    }
+    few_have_either(units, a, b)
+}
+
+// Whether there is a NUL.
+pub fn has_nul(units: &[u16]) -> bool
+    ensures { λ r. ⌜ r ≡ any isNul (now (units .entry)) ⌝ }
+{
+    has_either(units, 0, 0)
+}
+
+// Whether there is a quote mark.
+pub fn has_quote(units: &[u16]) -> bool
+    ensures { λ r. ⌜ r ≡ any isQuote (now (units .entry)) ⌝ }
+{
+    has_either(units, 34, 34)
+}
+
+// Whether there is a line break.
+pub fn has_line_break(units: &[u16]) -> bool
+    ensures { λ r. ⌜ r ≡ any isLineBreak (now (units .entry)) ⌝ }
+{
+    has_either(units, 13, 10)
+}
+
+// Whether there is a blank.
+pub fn has_blank(units: &[u16]) -> bool
+    ensures { λ r. ⌜ r ≡ any isBlank (now (units .entry)) ⌝ }
+{
+    has_either(units, 32, 9)
 }
 
 // Whether a unit is none of four. The tests are joined without a branch.
@@ -38,21 +143,6 @@ fn find_slowly(units: &[u16], a: u16, b: u16, c: u16, d: u16) -> usize
     i
 }
 
-// Whether the eight units from a place on are all none of four. There is no branch between, so that the machine does it at once.
-fn eight_none(units: &[u16], at: usize, a: u16, b: u16, c: u16, d: u16) -> bool
-    requires { ⌜ at + 8 ≤ length (now units) ⌝ }
-    ensures { λ r. ⌜ r ≡ eight (λ x. flip (isOneOf a b c d x)) (now (units .entry)) at ⌝ }
-{
-    is_none(units[at], a, b, c, d)
-        & is_none(units[at + 1], a, b, c, d)
-        & is_none(units[at + 2], a, b, c, d)
-        & is_none(units[at + 3], a, b, c, d)
-        & is_none(units[at + 4], a, b, c, d)
-        & is_none(units[at + 5], a, b, c, d)
-        & is_none(units[at + 6], a, b, c, d)
-        & is_none(units[at + 7], a, b, c, d)
-}
-
 // The index of the first unit from a place on that is one of four, by eights, where none before that place is.
 fn find_by_eights(units: &[u16], from: usize, a: u16, b: u16, c: u16, d: u16) -> usize
     requires { ⌜ from ≤ before (isOneOf a b c d) (now units) ⌝ }
@@ -60,11 +150,10 @@ fn find_by_eights(units: &[u16], from: usize, a: u16, b: u16, c: u16, d: u16) ->
 {
     let mut i = from;
     while i + 8 <= units.len() {
-        if eight_none(units, i, a, b, c, d) {
-            i += 8;
-        } else {
+        if eight_have_either(units, i, a, b) | eight_have_either(units, i, c, d) {
             return i + find_slowly(&units[i..], a, b, c, d);
         }
+        i += 8;
     }
     i + find_slowly(&units[i..], a, b, c, d)
 }
@@ -90,41 +179,6 @@ pub fn find_nul(units: &[u16]) -> usize
     ensures { λ r. ⌜ r ≡ before isNul (now (units .entry)) ⌝ }
 {
     find_any(units, 0, 0, 0, 0)
-}
-
-// The index of the first quote mark, or the length where there is none.
-pub fn find_quote(units: &[u16]) -> usize
-    ensures { λ r. ⌜ r ≡ before isQuote (now (units .entry)) ⌝ }
-{
-    find_any(units, 34, 34, 34, 34)
-}
-
-// The index of the first line break, or the length where there is none.
-pub fn find_line_break(units: &[u16]) -> usize
-    ensures { λ r. ⌜ r ≡ before isLineBreak (now (units .entry)) ⌝ }
-{
-    find_any(units, 13, 10, 13, 10)
-}
-
-// Whether there is a NUL.
-pub fn has_nul(units: &[u16]) -> bool
-    ensures { λ r. ⌜ r ≡ any isNul (now (units .entry)) ⌝ }
-{
-    find_nul(units) < units.len()
-}
-
-// Whether there is a quote mark.
-pub fn has_quote(units: &[u16]) -> bool
-    ensures { λ r. ⌜ r ≡ any isQuote (now (units .entry)) ⌝ }
-{
-    find_quote(units) < units.len()
-}
-
-// Whether there is a line break.
-pub fn has_line_break(units: &[u16]) -> bool
-    ensures { λ r. ⌜ r ≡ any isLineBreak (now (units .entry)) ⌝ }
-{
-    find_line_break(units) < units.len()
 }
 
 // How many blanks the rest of a line starts with.

@@ -2,10 +2,13 @@
 use borrow.Author.Needs.{needs}
 use Prim.Native.Nat.{_-_, _≤_}
 use native.Mathlib.Omega.{arith}
-use mathlib.Core.Path.{_∙_, sym}
+use mathlib.Core.Path.{_∙_, _≡_, sym}
 use lib.ListN.{length}
-use Rattle.rules.specs.Choice.{flip}
-use Rattle.laws.specs.Scan.{Passed, eight-more, front-passed, isOneOf, passed-in, rest-passed, rest-within}
+use Rattle.rules.specs.Choice.{any, flip}
+use Rattle.laws.specs.Any.{any-either}
+use Rattle.laws.specs.Scan.{Passed, front-passed, isEither, isOneOf, many-more, passed-in, rest-passed, rest-within}
+use mathlib.Core.Bool.{false}
+use Rattle.rules.specs.Record.{part}
 use Rattle.units.proofs.scans.find_by_eights.Statement.{statement}
 use Rattle.units.proofs.scans.find_by_eights.Tie as tie
 
@@ -21,17 +24,11 @@ loop-holds c = let h = front-passed _ _ _ (c .before .pre) in (passed-in _ _ h, 
 add-loop : tie.Need-add-loop Inv-loop μ-loop
 add-loop c = search needs
 
-eight-none-requires : tie.Need-eight-none-requires Inv-loop μ-loop
-eight-none-requires c κs = search needs
+eight-have-either-requires : tie.Need-eight-have-either-requires Inv-loop μ-loop
+eight-have-either-requires c κs = search needs
 
-add-i : tie.Need-add-i Inv-loop μ-loop
-add-i c = search needs
-
-loop-less : tie.Need-loop-less Inv-loop μ-loop
-loop-less c = search needs
-
-loop-again : tie.Need-loop-again Inv-loop μ-loop
-loop-again c = (search needs, eight-more _ _ _ (c .before .before .before .loop .inv .1) (search needs) (sym (c .before .eight-none .ensures) ∙ c .if1 .taken))
+eight-have-either-requires-2 : tie.Need-eight-have-either-requires-2 Inv-loop μ-loop
+eight-have-either-requires-2 c κs = search needs
 
 mul-find-slowly : tie.Need-mul-find-slowly Inv-loop μ-loop
 mul-find-slowly c = search needs
@@ -49,10 +46,25 @@ find-slowly-requires : tie.Need-find-slowly-requires Inv-loop μ-loop
 find-slowly-requires c κs = search needs
 
 add-result : tie.Need-add-result Inv-loop μ-loop
-add-result c = omega (arith, rest-within _ _ _ (c .before .before .before .before .before .loop .inv .1) (c .find-slowly .ensures))
+add-result c = omega (arith, rest-within _ _ _ (c .before .before .before .before .before .before .loop .inv .1) (c .find-slowly .ensures))
 
 returns : tie.Need-returns Inv-loop μ-loop
-returns c = rest-passed _ _ _ (c .before .before .before .before .before .loop .inv .1) (c .find-slowly .ensures)
+returns c = rest-passed _ _ _ (c .before .before .before .before .before .before .loop .inv .1) (c .find-slowly .ensures)
+
+add-i : tie.Need-add-i Inv-loop μ-loop
+add-i c = search needs
+
+loop-less : tie.Need-loop-less Inv-loop μ-loop
+loop-less c = search needs
+
+loop-again : tie.Need-loop-again Inv-loop μ-loop
+loop-again c =
+    let s = c .before .before .before .before .before .before .args in
+    let xs = s .units .now in
+    let i = c .before .before .before .before .loop .i in
+    let none : any (isOneOf (s .a) (s .b) (s .c) (s .d)) (part xs i 8) ≡ false =
+    sym (any-either (isEither (s .a) (s .b)) (isEither (s .c) (s .d)) (part xs i 8)) ∙ rw (c .before .before .eight-have-either .ensures, c .before .eight-have-either2 .ensures) at (c .if1 .left) in
+    (search needs, many-more (isOneOf (s .a) (s .b) (s .c) (s .d)) xs i 8 (c .before .before .before .before .loop .inv .1) (search needs) none)
 
 mul-find-slowly-2 : tie.Need-mul-find-slowly-2 Inv-loop μ-loop
 mul-find-slowly-2 c = search needs
@@ -83,10 +95,8 @@ find-by-eights-spec =
     μ-loop
     loop-holds
     add-loop
-    eight-none-requires
-    add-i
-    loop-less
-    loop-again
+    eight-have-either-requires
+    eight-have-either-requires-2
     mul-find-slowly
     sub-find-slowly
     part-find-slowly-start
@@ -94,6 +104,9 @@ find-by-eights-spec =
     find-slowly-requires
     add-result
     returns
+    add-i
+    loop-less
+    loop-again
     mul-find-slowly-2
     sub-find-slowly-2
     part-find-slowly-start-2

@@ -1,15 +1,16 @@
 -- `units::scans::has_quote` meets its contract. Assumes nothing.
 use borrow.Author.Needs.{needs}
-use Rattle.rules.specs.Unit.{isQuote}
-use Rattle.laws.specs.Scan.{found-any}
+use mathlib.Core.Path.{_∙_}
+use Rattle.laws.specs.Any.{any-same, twice}
+use Rattle.laws.specs.Scan.{isEither, isUnit}
 use Rattle.units.proofs.scans.has_quote.Statement.{statement}
 use Rattle.units.proofs.scans.has_quote.Tie as tie
 
-find-quote-requires : tie.Need-find-quote-requires
-find-quote-requires c κs = search needs
+has-either-requires : tie.Need-has-either-requires
+has-either-requires c κs = search needs
 
 returns : tie.Need-returns
-returns c = found-any isQuote _ (c .find-quote .ensures)
+returns c = c .has-either .ensures ∙ any-same (isEither 34 34) (isUnit 34) (λ x. twice (isUnit 34 x)) (c .before .before .args .units .now)
 
 pub has-quote-spec : {M : Type 1} → statement M
-has-quote-spec = tie.close (tie.spec find-quote-requires returns)
+has-quote-spec = tie.close (tie.spec has-either-requires returns)

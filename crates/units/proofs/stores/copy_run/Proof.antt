@@ -1,69 +1,61 @@
 -- `units::stores::copy_run` meets its contract. Assumes nothing.
 use borrow.Author.Needs.{needs}
-use Prim.Native.Nat.{_-_}
-use native.Mathlib.Nat.{add-zero}
-use mathlib.Core.Path.{refl}
-use Rattle.units.proofs.Clip.{Storing, stored-one, all-stored}
 use Rattle.units.proofs.stores.copy_run.Statement.{statement}
 use Rattle.units.proofs.stores.copy_run.Tie as tie
 
-abbrev Inv-loop : tie.InvT-loop
-Inv-loop out₀ at run n i₀ out i = Storing n at run out₀ out i
-
-abbrev μ-loop : tie.MeasureT-loop
-μ-loop out₀ at run n i₀ out i = n - i
-
-fitting-requires : tie.Need-fitting-requires Inv-loop μ-loop
+fitting-requires : tie.Need-fitting-requires
 fitting-requires c κs = search needs
 
-loop-holds : tie.Need-loop-holds Inv-loop μ-loop
-loop-holds c = record { within = search needs; still = rw add-zero; same = refl }
+copy-slowly-requires : tie.Need-copy-slowly-requires
+copy-slowly-requires c κs = search needs
 
-mul-out : tie.Need-mul-out Inv-loop μ-loop
-mul-out c = search needs
-
-shared-slice-read-out : tie.Need-shared-slice-read-out Inv-loop μ-loop
-shared-slice-read-out c = search needs
-
-add-out : tie.Need-add-out Inv-loop μ-loop
-add-out c = search needs
-
-mul-out-2 : tie.Need-mul-out-2 Inv-loop μ-loop
-mul-out-2 c = search needs
-
-slice-write-out : tie.Need-slice-write-out Inv-loop μ-loop
-slice-write-out c = search needs
-
-add-i : tie.Need-add-i Inv-loop μ-loop
-add-i c = search needs
-
-loop-less : tie.Need-loop-less Inv-loop μ-loop
-loop-less c = search needs
-
-loop-again : tie.Need-loop-again Inv-loop μ-loop
-loop-again c = stored-one (c .before .before .loop .inv) (search needs) (search needs) refl
-
-same-length : tie.Need-same-length Inv-loop μ-loop
+same-length : tie.Need-same-length
 same-length c = search needs
 
-returns : tie.Need-returns Inv-loop μ-loop
-returns c = all-stored (c .before .loop .inv) (search needs) (c .before .before .fitting .ensures)
+returns : tie.Need-returns
+returns c = search needs
+
+copy-slowly-requires-2 : tie.Need-copy-slowly-requires-2
+copy-slowly-requires-2 c κs = search needs
+
+same-length-2 : tie.Need-same-length-2
+same-length-2 c = search needs
+
+returns-2 : tie.Need-returns-2
+returns-2 c = search needs
+
+copy-fours-requires : tie.Need-copy-fours-requires
+copy-fours-requires c κs = search needs
+
+same-length-3 : tie.Need-same-length-3
+same-length-3 c = search needs
+
+returns-3 : tie.Need-returns-3
+returns-3 c = search needs
+
+copy-eights-requires : tie.Need-copy-eights-requires
+copy-eights-requires c κs = search needs
+
+same-length-4 : tie.Need-same-length-4
+same-length-4 c = search needs
+
+returns-4 : tie.Need-returns-4
+returns-4 c = search needs
 
 pub copy-run-spec : {M : Type 1} → statement M
 copy-run-spec =
     tie.close
     (tie.spec
-    Inv-loop
-    μ-loop
     fitting-requires
-    loop-holds
-    mul-out
-    shared-slice-read-out
-    add-out
-    mul-out-2
-    slice-write-out
-    add-i
-    loop-less
-    loop-again
+    copy-slowly-requires
     same-length
-    returns)
+    returns
+    copy-slowly-requires-2
+    same-length-2
+    returns-2
+    copy-fours-requires
+    same-length-3
+    returns-3
+    copy-eights-requires
+    same-length-4
+    returns-4)
