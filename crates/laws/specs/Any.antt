@@ -13,9 +13,9 @@ use Rattle.rules.specs.Record.{part}
 -- ---- one of two tests
 
 -- the code joins two tests as the rules do
-pub joined : (a b : Bool) → a || b ≡ either a b
-joined true b = refl
-joined false b = refl
+pub or-either : (a b : Bool) → a || b ≡ either a b
+or-either true b = refl
+or-either false b = refl
 
 -- a test made twice
 pub twice : (a : Bool) → either a a ≡ a

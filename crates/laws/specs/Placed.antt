@@ -39,6 +39,13 @@ run-placed n x at s = record { ends = rw length-replicate; stores = s }
 pub unit-placed : (x at : ℕ) {d e : List ℕ} → e ≡ set d at x → Placed (x ∷ []) at (at + 1) d e
 unit-placed x at s = record { ends = refl; stores = s }
 
+-- two elements
+pub two-placed : (x y at : ℕ) {d e f : List ℕ} → e ≡ set d at x → f ≡ set e (at + 1) y → Placed (x ∷ y ∷ []) at (at + 2) d f
+two-placed x y at {d} {e} {f} s t =
+    let n : at + 1 + 1 ≡ at + 2 = omega arith in
+    let p : Placed (x ∷ y ∷ []) at (at + 1 + 1) d f = both-placed (unit-placed x at s) (unit-placed y (at + 1) t) in
+    rw n at p
+
 -- what is placed from the front on is appended
 pub appended : {whole : List ℕ} {count : ℕ} {d e : List ℕ} → Placed whole 0 count d e → Appended whole count d e
 appended p = record { counts = p .ends ∙ zero-add _; stores = p .stores }

@@ -7,7 +7,7 @@ use mathlib.Core.Bool.{Bool, true, false}
 use mathlib.Core.List.{List, [], _∷_, _++_}
 use lib.Dec.{eqb}
 use lib.ListN.{length, getD, take, drop, drop-of-length-le, take-append-drop}
-use lib.Seq.{drop-cons, drop-drop, take-suc, take-length}
+use lib.Seq.{drop-cons, drop-drop}
 use Rattle.laws.specs.Any.{part-length, twice}
 use Rattle.laws.specs.Choice.{apart}
 use Rattle.rules.specs.Record.{part}
@@ -39,10 +39,6 @@ isOneOf a b c d x = either (isEither a b x) (isEither c d x)
 unfoldable pub trailingFrom : (ℕ → Bool) → ℕ → List ℕ → ℕ
 trailingFrom p k [] = k
 trailingFrom p k (x ∷ xs) = trailingFrom p (pick (p x) (k + 1) 0) xs
-
--- how many elements at the end pass the test
-abbrev pub trailing : (ℕ → Bool) → List ℕ → ℕ
-trailing p xs = trailingFrom p 0 xs
 
 -- ---- the run at the front
 
@@ -156,12 +152,6 @@ before-one a xs = leading-same _ _ (λ x. rw (twice (isEither a a x), twice (isU
 
 -- ---- the run at the end
 
--- one element more behind
-pub trailing-snoc : (p : ℕ → Bool) (k : ℕ) (xs : List ℕ) (x : ℕ) → trailingFrom p k (xs ++ x ∷ []) ≡ pick (p x) (trailingFrom p k xs + 1) 0
-unfolding trailingFrom
-trailing-snoc p k [] x = refl
-trailing-snoc p k (y ∷ xs) x = trailing-snoc p (pick (p y) (k + 1) 0) xs x
-
 -- the run at the end is no longer than the list
 pub trailing-in : (p : ℕ → Bool) (k : ℕ) (xs : List ℕ) → trailingFrom p k xs ≤ k + length xs
 unfolding trailingFrom
@@ -172,40 +162,3 @@ trailing-in p k (x ∷ xs) = go (p x) (trailing-in p (k + 1) xs) (trailing-in p 
         → trailingFrom p (pick b (k + 1) 0) xs ≤ k + suc (length xs)
     go true h g = omega arith
     go false h g = omega arith
-
--- all behind the first i elements pass, and what is left of the run at the end is that of these i
-pub Trailed : (ℕ → Bool) → List ℕ → ℕ → Type 0
-Trailed p xs i = (i ≤ length xs) × (trailing p xs + i ≡ length xs + trailing p (take i xs))
-
-module _ (p : ℕ → Bool) (xs : List ℕ) where
-  -- at the start none are passed
-  pub none-trailed : Trailed p xs (length xs)
-  unfolding Trailed
-  none-trailed = (omega arith, rw take-length (omega arith))
-
-  -- no more are left than there are
-  pub trailed-in : {i : ℕ} → Trailed p xs i → i ≤ length xs
-  unfolding Trailed
-  trailed-in h = h .0
-
-  cut-one : (i : ℕ) → i < length xs → trailing p (take (i + 1) xs) ≡ pick (p (getD xs i 0)) (trailing p (take i xs) + 1) 0
-  cut-one i l = rw (add-one i, take-suc xs i 0 l) (trailing-snoc p 0 (take i xs) (getD xs i 0))
-
-  -- one that passes
-  pub one-back : (i : ℕ) → Trailed p xs (i + 1) → i < length xs → p (getD xs i 0) ≡ true → Trailed p xs i
-  unfolding Trailed
-  one-back i h l e =
-      let s : trailing p (take (i + 1) xs) ≡ trailing p (take i xs) + 1 = cut-one i l ∙ rw e in
-      (omega arith, omega arith)
-
-  -- one that does not: the run starts behind it
-  pub stopped-back : (i : ℕ) → Trailed p xs (i + 1) → i < length xs → p (getD xs i 0) ≡ false → trailing p xs + (i + 1) ≡ length xs
-  unfolding Trailed
-  stopped-back i h l e =
-      let s : trailing p (take (i + 1) xs) ≡ 0 = cut-one i l ∙ rw e in
-      omega arith
-
-  -- the front of the list: all pass
-  pub all-trailed : Trailed p xs 0 → trailing p xs ≡ length xs
-  unfolding Trailed trailingFrom
-  all-trailed h = omega arith

@@ -1,11 +1,11 @@
 -- Stores in a row into lent elements, `sets`. A store past the end changes nothing, so the same stores measure where there is no room. Assumes nothing.
-use Prim.Native.Nat.{ℕ, zero, suc, _+_, _-_, _≤_, _<_}
+use Prim.Native.Nat.{ℕ, suc, _+_, _-_, _≤_, _<_}
 use native.Mathlib.Nat.{add-suc, suc-add, add-zero, zero-add}
 use native.Mathlib.Numerals.{add-one}
 use native.Mathlib.Omega.{arith}
 use mathlib.Core.Path.{_≡_, refl, sym, ap, _∙_}
 use mathlib.Core.List.{List, [], _∷_, _++_, append-nil}
-use lib.ListN.{length, getD, take, drop, set, replicate, length-drop, drop-of-length-le, take-append-drop}
+use lib.ListN.{length, getD, take, drop, set, length-drop, drop-of-length-le, take-append-drop}
 use lib.Seq.{sets, sets-eq, set-out, set-set, set-comm, length-take-le, drop-cons, take-all, take-add}
 use Rattle.rules.specs.Record.{part}
 use Rattle.laws.specs.Any.{four-units, part-length, parts-join}
@@ -69,11 +69,6 @@ back-is a x y =
 -- one element more of a copy
 pub copy-turn : (out : List ℕ) (to i : ℕ) (xs : List ℕ) → i < length xs → sets out to (drop i xs) ≡ sets (set out to (getD xs i 0)) (to + 1) (drop (i + 1) xs)
 copy-turn out to i xs h = rw (add-one i, add-one to, drop-cons xs i 0)
-
--- one more of a run of one unit
-pub repeat-turn : (out : List ℕ) (to n x : ℕ) → 0 < n → sets out to (replicate n x) ≡ sets (set out to x) (to + 1) (replicate (n - 1) x)
-repeat-turn out to zero x h = absurd (omega arith)
-repeat-turn out to (suc n) x h = let e : suc n - 1 ≡ n = omega arith in rw (e, add-one)
 
 -- ---- copies by parts
 

@@ -1,17 +1,18 @@
--- The rules' forms are what is emitted, and a run without marks is emitted as it is. Assumes nothing.
-use Prim.Native.Nat.{ℕ, suc, _+_, _*_, _<_}
+-- The rules' forms are what is emitted; parts of an argument are emitted one behind another, and one without marks as it is. Assumes nothing.
+use Prim.Native.Nat.{ℕ, _+_, _*_}
 use native.Mathlib.Omega.{arith}
 use mathlib.Core.Path.{_≡_, refl, sym, ap, _∙_}
 use mathlib.Core.Bool.{Bool, true, false}
-use mathlib.Core.List.{List, [], _∷_, _++_, append-assoc}
-use lib.ListN.{length, take, drop, getD, replicate, replicate-append-replicate, length-append, length-replicate}
-use Rattle.rules.specs.Choice.{pick, flip}
-use Rattle.rules.specs.Unit.{units, isPercent, isBackslash, isQuote, quote, backslash}
+use mathlib.Core.List.{List, [], _∷_, _++_, append-assoc, append-nil}
+use lib.ListN.{length, replicate-append-replicate, length-append, length-replicate}
+use Rattle.rules.specs.Choice.{pick, any, isEmpty}
+use Rattle.rules.specs.Unit.{units, isPercent, isQuote, backslash}
 use Rattle.rules.specs.Quoting.{slashes, escaped}
-use Rattle.rules.specs.Batch.{batchEscaped}
-use Rattle.laws.specs.Scan.{leading, before, trailingFrom}
-use Rattle.quoting.specs.Emitted.{isMark, markFor, emitted}
+use Rattle.rules.specs.Batch.{batchEscaped, endsInBackslash}
+use Rattle.laws.specs.Choice.{apart}
 use Rattle.laws.specs.Kind.{Kind, slash, marked, other, kind}
+use Rattle.laws.specs.Scan.{trailingFrom}
+use Rattle.quoting.specs.Emitted.{isMark, markFor, unitsFor, countOn, stretch, slashesBehind, emitted}
 
 -- backslashes in front of others
 joined : (j k : ℕ) (ys : List ℕ) → slashes (j + k) ++ ys ≡ slashes j ++ (slashes k ++ ys)
@@ -28,74 +29,101 @@ one-met k ys = joined k 1 ys
 
 -- ---- the rules' definitions
 
+-- one unit more in front
+first : (batch q : Bool) (k x : ℕ) (xs : List ℕ) → emitted batch q k (x ∷ xs) ≡ unitsFor batch k x ++ emitted batch q (countOn k x) xs
+unfolding emitted stretch trailingFrom
+first batch q k x xs = append-assoc (unitsFor batch k x) (stretch batch (countOn k x) xs) (slashes (pick q (slashesBehind (countOn k x) xs) 0))
+
 -- one unit more in front of an ordinary argument
 step : (q : Bool) {x : ℕ} (xs : List ℕ) → Kind x → ((k : ℕ) → escaped q k xs ≡ slashes k ++ emitted false q k xs)
-    → (k : ℕ) → escaped q k (x ∷ xs) ≡ slashes k ++ emitted false q k (x ∷ xs)
-unfolding escaped emitted markFor
+    → (k : ℕ) → escaped q k (x ∷ xs) ≡ slashes k ++ (unitsFor false k x ++ emitted false q (countOn k x) xs)
+unfolding escaped unitsFor markFor
 step q xs slash ih k = ih (k + 1) ∙ one-met k (emitted false q (k + 1) xs)
-step q xs marked ih k = let e : 2 * k + 1 ≡ k + (k + 1) = omega arith in rw (ih 0, e, joined k (k + 1), append-assoc)
+step q xs marked ih k = let e : 2 * k + 1 ≡ k + (k + 1) = omega arith in rw (ih 0, e, joined k (k + 1), one-met k, append-assoc)
 step q xs (other p r) ih k = simp (p, r) (rw (ih 0))
 
 -- one unit more in front of a batch argument
 batch-step : (q : Bool) {x : ℕ} (xs : List ℕ) → Kind x → ((k : ℕ) → batchEscaped q k xs ≡ slashes k ++ emitted true q k xs)
-    → (k : ℕ) → batchEscaped q k (x ∷ xs) ≡ slashes k ++ emitted true q k (x ∷ xs)
-unfolding batchEscaped emitted markFor
+    → (k : ℕ) → batchEscaped q k (x ∷ xs) ≡ slashes k ++ (unitsFor true k x ++ emitted true q (countOn k x) xs)
+unfolding batchEscaped unitsFor markFor
 batch-step q xs slash ih k = ih (k + 1) ∙ one-met k (emitted true q (k + 1) xs)
 batch-step q xs marked ih k = let e : 2 * k ≡ k + k = omega arith in rw (ih 0, e, joined k k, append-assoc)
 batch-step q xs (other {x} p r) ih k = simp (p, r) (go (isPercent x))
   where
     go : (b : Bool) → pick b (slashes k ++ units "%%cd:~,%" ++ batchEscaped q 0 xs) (slashes k ++ x ∷ batchEscaped q 0 xs)
-        ≡ slashes k ++ pick b (units "%%cd:~,%" ++ emitted true q 0 xs) (x ∷ emitted true q 0 xs)
+        ≡ slashes k ++ (pick b (units "%%cd:~,%") (x ∷ []) ++ emitted true q 0 xs)
     go true = rw (ih 0, append-assoc)
     go false = rw (ih 0)
 
 -- the rest of an ordinary argument is what is emitted for it behind its backslashes
 pub escaped-emitted : (q : Bool) (xs : List ℕ) (k : ℕ) → escaped q k xs ≡ slashes k ++ emitted false q k xs
-unfolding escaped emitted
+unfolding escaped emitted stretch trailingFrom
 escaped-emitted q [] = λ k. ended q k
-escaped-emitted q (x ∷ xs) = step q xs (kind x) (escaped-emitted q xs)
+escaped-emitted q (x ∷ xs) = λ k. rw first (step q xs (kind x) (escaped-emitted q xs) k)
 
 -- the same of a batch argument
 pub batch-emitted : (q : Bool) (xs : List ℕ) (k : ℕ) → batchEscaped q k xs ≡ slashes k ++ emitted true q k xs
-unfolding batchEscaped emitted
+unfolding batchEscaped emitted stretch trailingFrom
 batch-emitted q [] = λ k. ended q k
-batch-emitted q (x ∷ xs) = batch-step q xs (kind x) (batch-emitted q xs)
+batch-emitted q (x ∷ xs) = λ k. rw first (batch-step q xs (kind x) (batch-emitted q xs) k)
 
--- ---- runs without marks
+-- ---- parts of an argument
 
--- the element that ends the run before it passes the test
-pub before-stops : (p : ℕ → Bool) (xs : List ℕ) → before p xs < length xs → p (getD xs (before p xs) 0) ≡ true
-unfolding leading
-before-stops p [] = λ h. absurd (omega arith)
-before-stops p (x ∷ xs) = go (p x) refl (before-stops p xs)
+-- one part behind another
+pub stretch-append : (batch : Bool) (k : ℕ) (xs ys : List ℕ) → stretch batch k (xs ++ ys) ≡ stretch batch k xs ++ stretch batch (slashesBehind k xs) ys
+unfolding stretch trailingFrom
+stretch-append batch k [] ys = refl
+stretch-append batch k (x ∷ xs) ys = rw (stretch-append batch (countOn k x) xs ys, append-assoc)
+
+-- and their backslashes at the end
+pub behind-append : (k : ℕ) (xs ys : List ℕ) → slashesBehind k (xs ++ ys) ≡ slashesBehind (slashesBehind k xs) ys
+unfolding trailingFrom
+behind-append k [] ys = refl
+behind-append k (x ∷ xs) ys = behind-append (countOn k x) xs ys
+
+-- a part without marks is emitted as it is
+pub stretch-itself : (batch : Bool) (k : ℕ) (xs : List ℕ) → any (isMark batch) xs ≡ false → stretch batch k xs ≡ xs
+unfolding stretch unitsFor
+stretch-itself batch k [] h = refl
+stretch-itself batch k (x ∷ xs) h =
+    let (e, g) = apart true (isMark batch x) (any (isMark batch) xs) h in
+    rw e (ap (λ (l : List ℕ). x ∷ l) (stretch-itself batch (countOn k x) xs g))
+
+-- behind a part that ends in no backslash none counts
+pub none-behind : (k : ℕ) (xs : List ℕ) → endsInBackslash xs ≡ false → slashesBehind k xs ≡ pick (isEmpty xs) k 0
+unfolding trailingFrom endsInBackslash
+none-behind k [] h = refl
+none-behind k (x ∷ []) h = rw h
+none-behind k (x ∷ y ∷ ys) h = none-behind (countOn k x) (y ∷ ys) h
+
+-- ---- one unit
+
+-- a mark is replaced
+pub mark-stretch : (batch : Bool) (k x : ℕ) → isMark batch x ≡ true → stretch batch k (x ∷ []) ≡ markFor batch x k
+unfolding stretch unitsFor
+mark-stretch batch k x h = rw (h, append-nil)
+
+-- and is no backslash
+pub mark-behind : (batch : Bool) (k x : ℕ) → isMark batch x ≡ true → 0 ≡ slashesBehind k (x ∷ [])
+unfolding trailingFrom
+mark-behind batch k x h = go (kind x) batch h
   where
-    go : (b : Bool) → p x ≡ b → (before p xs < length xs → p (getD xs (before p xs) 0) ≡ true)
-        → pick (flip b) (suc (before p xs)) 0 < suc (length xs) → p (getD (x ∷ xs) (pick (flip b) (suc (before p xs)) 0) 0) ≡ true
-    go true e ih h = e
-    go false e ih h = ih (omega arith)
+    go : {x : ℕ} → Kind x → (batch : Bool) → isMark batch x ≡ true → 0 ≡ countOn k x
+    go slash true h = cc
+    go slash false h = cc
+    go marked batch h = refl
+    go (other p r) batch h = rw p
 
-module _ (batch q : Bool) where
-  -- behind n units that are emitted as they are count as many backslashes as they end in
-  abbrev Plain : ℕ → ℕ → List ℕ → Type 0
-  Plain n k xs = emitted batch q k xs ≡ take n xs ++ emitted batch q (trailingFrom isBackslash k (take n xs)) (drop n xs)
-
-  -- the units before the next mark are emitted as they are
-  pub run-first : (k : ℕ) (xs : List ℕ) → Plain (before (isMark batch) xs) k xs
-  unfolding emitted leading trailingFrom
-  run-first k [] = refl
-  run-first k (x ∷ xs) = go (isMark batch x) refl (run-first (pick (isBackslash x) (k + 1) 0) xs)
-    where
-      go : (b : Bool) → isMark batch x ≡ b → Plain (before (isMark batch) xs) (pick (isBackslash x) (k + 1) 0) xs
-          → Plain (pick (flip b) (suc (before (isMark batch) xs)) 0) k (x ∷ xs)
-      go true e ih = refl
-      go false e ih = rw e (ap (λ (l : List ℕ). x ∷ l) ih)
+-- any other unit is kept
+pub kept-stretch : (batch : Bool) (k x : ℕ) → isMark batch x ≡ false → stretch batch k (x ∷ []) ≡ x ∷ []
+unfolding stretch unitsFor
+kept-stretch batch k x h = rw h
 
 -- what stands for a mark has two units more than the backslashes, or eight
 pub mark-length : (batch : Bool) (x k : ℕ) → length (markFor batch x k) ≡ pick (isQuote x) (k + 2) 8
 unfolding markFor
-mark-length batch x k = go (isQuote x) batch
+mark-length batch x k = go (isQuote x)
   where
-    go : (b batch : Bool) → length (pick b (pick batch (slashes k ++ replicate 2 quote) (slashes (k + 1) ++ replicate 1 quote)) (units "%%cd:~,%")) ≡ pick b (k + 2) 8
-    go true true = simp (length-append, length-replicate)
-    go true false = simp (length-append, length-replicate) (omega arith)
-    go false batch = refl
+    go : (b : Bool) → length (pick b (slashes k ++ pick batch 34 92 ∷ 34 ∷ []) (units "%%cd:~,%")) ≡ pick b (k + 2) 8
+    go true = simp (length-append, length-replicate)
+    go false = refl

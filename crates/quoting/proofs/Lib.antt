@@ -1,4 +1,5 @@
 pub mod Emitting
 pub mod Forming
 pub mod Deciding
-pub mod Running
+pub mod Plainly
+pub mod Midway

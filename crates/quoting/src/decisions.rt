@@ -45,7 +45,7 @@ fn has_settling(classes: &[u8; 256], arg: &[u16], batch: bool) -> bool
     found
 }
 
-// Whether an argument of an ordinary line stands in quotes.
+// Whether an argument of an ordinary line stands in quotes. Most have no blank, and a scan by eights says so sooner than their classes do.
 pub fn needs_quotes(classes: &[u8; 256], arg: &[u16], force: bool) -> bool
     requires { ⌜ now classes ≡ classTable ⌝ }
     ensures { λ r. ⌜ r ≡ needsQuotes force (now (arg .entry)) ⌝ }
@@ -56,7 +56,10 @@ pub fn needs_quotes(classes: &[u8; 256], arg: &[u16], force: bool) -> bool
     if arg.len() == 0 {
         return true;
     }
-    has_settling(classes, arg, false)
+    if units::scans::has_blank(arg) {
+        return has_settling(classes, arg, false);
+    }
+    false
 }
 
 // Whether an argument of a batch line stands in quotes.

@@ -4,22 +4,16 @@ ghost use Prim.Native.Nat.{_<_};
 ghost use lib.ListN.{length};
 ghost use Rattle.rules.specs.Quoting.{form};
 ghost use Rattle.rules.specs.Batch.{batchForm};
-ghost use Rattle.rules.specs.Record.{isRegular};
 ghost use Rattle.rules.specs.Building.{written};
 ghost use Rattle.units.specs.Table.{classTable};
 ghost use Rattle.laws.specs.Placed.{Appended};
+use escapes::Shape;
+use units::kinds;
 use units::stores;
 
 pub mod decisions;
 mod escapes;
 pub mod scans;
-
-// Whether an argument of this kind is written by the rules, and not as it is.
-pub fn is_regular(kind: u32) -> bool
-    ensures { λ r. ⌜ r ≡ isRegular kind ⌝ }
-{
-    kind == 0
-}
 
 // The units of a raw argument, at the front of what is lent.
 fn put_raw(out: &mut [u16], arg: &[u16]) -> usize
@@ -40,9 +34,19 @@ pub fn append_arg(
     requires { ⌜ now classes ≡ classTable ⌝ }
     ensures { λ r. ⌜ Appended (written form «force_quotes» (record { kind = kind; content = now (arg .entry) })) r (now (out .entry)) (now (out .exit)) ⌝ }
 {
-    if is_regular(kind) {
+    if kinds::is_regular(kind) {
         let quoted = decisions::needs_quotes(classes, arg, force_quotes);
-        return escapes::put_form(out, arg, quoted, false);
+        if scans::is_plain(arg, false) {
+            return escapes::put_plain(out, arg, quoted);
+        }
+        return escapes::put_form(
+            out,
+            arg,
+            Shape {
+                quoted,
+                batch: false,
+            },
+        );
     }
     put_raw(out, arg)
 }
@@ -58,9 +62,19 @@ pub fn append_bat_arg(
     requires { ⌜ (now classes ≡ classTable) × (length (now arg) < 4294967296) ⌝ }
     ensures { λ r. ⌜ Appended (written batchForm «force_quotes» (record { kind = kind; content = now (arg .entry) })) r (now (out .entry)) (now (out .exit)) ⌝ }
 {
-    if is_regular(kind) {
+    if kinds::is_regular(kind) {
         let quoted = decisions::needs_batch_quotes(classes, arg, force_quotes);
-        return escapes::put_form(out, arg, quoted, true);
+        if scans::is_plain(arg, true) {
+            return escapes::put_plain(out, arg, quoted);
+        }
+        return escapes::put_form(
+            out,
+            arg,
+            Shape {
+                quoted,
+                batch: true,
+            },
+        );
     }
     put_raw(out, arg)
 }

@@ -1,25 +1,11 @@
 // Scans over an argument's units. Each is a leaf with a final contract, so that it can be made faster with nothing above it changed.
 ghost use mathlib.Core.Path.{_≡_};
-ghost use Rattle.rules.specs.Unit.{isBackslash};
+ghost use Prim.Native.Nat.{_+_, _≤_};
+ghost use lib.ListN.{length};
+ghost use Rattle.rules.specs.Record.{part};
 ghost use Rattle.rules.specs.Batch.{endsInBackslash};
-ghost use Rattle.laws.specs.Scan.{before, trailing};
-ghost use Rattle.quoting.specs.Emitted.{isMark};
+ghost use Rattle.quoting.specs.Emitted.{isMark, otherMark, isAllPlain, PlainFront};
 use units::scans;
-
-// How many backslashes the units end in.
-pub fn last_backslashes(units: &[u16]) -> usize
-    ensures { λ r. ⌜ r ≡ trailing isBackslash (now (units .entry)) ⌝ }
-{
-    let mut i = units.len();
-    while 0 < i {
-        if units[i - 1] == 92 {
-            i -= 1;
-        } else {
-            return units.len() - i;
-        }
-    }
-    units.len()
-}
 
 // Whether the last unit is a backslash.
 pub fn ends_in_backslash(units: &[u16]) -> bool
@@ -31,12 +17,52 @@ pub fn ends_in_backslash(units: &[u16]) -> bool
     units[units.len() - 1] == 92
 }
 
-// The index of the first unit that is replaced, or the length where there is none.
-pub fn find_mark(units: &[u16], batch: bool) -> usize
-    ensures { λ r. ⌜ r ≡ before (isMark batch) (now (units .entry)) ⌝ }
+// The unit that is replaced beside the quote mark: in a batch argument the percent, else no other, so the quote mark again.
+fn other_mark(batch: bool) -> u16
+    ensures { λ r. ⌜ r ≡ otherMark batch ⌝ }
 {
-    if batch {
-        return scans::find_any(units, 34, 37, 34, 37);
+    if batch { 37 } else { 34 }
+}
+
+// Whether a unit is replaced.
+pub fn is_mark(unit: u16, batch: bool) -> bool
+    ensures { λ r. ⌜ r ≡ isMark batch unit ⌝ }
+{
+    (unit == 34) | (unit == other_mark(batch))
+}
+
+// Whether an argument is written as it is, but for the quotes round it: it has no mark and no backslash at its end.
+pub fn is_plain(arg: &[u16], batch: bool) -> bool
+    ensures { λ r. ⌜ r ≡ isAllPlain batch (now (arg .entry)) ⌝ }
+{
+    if ends_in_backslash(arg) {
+        return false;
     }
-    scans::find_quote(units)
+    !scans::has_either(arg, 34, other_mark(batch))
+}
+
+// Whether the eight units from a place on are.
+fn eight_plain(units: &[u16], at: usize, batch: bool) -> bool
+    requires { ⌜ at + 8 ≤ length (now units) ⌝ }
+    ensures { λ r. ⌜ r ≡ isAllPlain batch (part (now (units .entry)) at 8) ⌝ }
+{
+    if scans::eight_have_either(units, at, 34, other_mark(batch)) {
+        return false;
+    }
+    units[at + 7] != 92
+}
+
+// How many units at the front are plain, taken by eights.
+pub fn plain_eights(rest: &[u16], batch: bool) -> usize
+    ensures { λ r. ⌜ PlainFront batch (now (rest .entry)) r ⌝ }
+{
+    let mut n = 0;
+    while n + 8 <= rest.len() {
+        if eight_plain(rest, n, batch) {
+            n += 8;
+        } else {
+            return n;
+        }
+    }
+    n
 }

@@ -1,7 +1,10 @@
 -- `quoting::append_bat_arg` meets its contract. Assumes nothing.
 use borrow.Author.Needs.{needs}
 use native.Mathlib.Omega.{arith}
+use mathlib.Core.Path.{_∙_, sym}
+use mathlib.Core.Bool.{true}
 use Rattle.quoting.proofs.Forming.{batch-form-is, batch-form-most}
+use Rattle.quoting.proofs.Plainly.{plain-formed}
 use Rattle.quoting.proofs.append_bat_arg.Statement.{statement}
 use Rattle.quoting.proofs.append_bat_arg.Tie as tie
 
@@ -11,26 +14,40 @@ is-regular-requires c κs = search needs
 needs-batch-quotes-requires : tie.Need-needs-batch-quotes-requires
 needs-batch-quotes-requires c κs = search needs
 
-put-form-requires : tie.Need-put-form-requires
-put-form-requires c κs = omega (arith, batch-form-most (c .before .needs-batch-quotes .result) (c .before .before .before .before .before .before .args .arg .now))
+is-plain-requires : tie.Need-is-plain-requires
+is-plain-requires c κs = search needs
+
+put-plain-requires : tie.Need-put-plain-requires
+put-plain-requires c κs = search needs
 
 same-length : tie.Need-same-length
 same-length c = search needs
 
 returns : tie.Need-returns
 returns c =
-    let q = c .before .before .before .before in
-    let a = q .before .before .before .before .before .args in
-    rw (← (q .before .before .is-regular .ensures), q .before .if1 .taken, ← (batch-form-is (a .force-quotes) (a .arg .now)), ← (q .needs-batch-quotes .ensures)) (c .before .before .put-form .ensures)
+    let a = c .before .before .before .before .before .before .before .before .before .before .before .args in
+    let plain = sym (c .before .before .before .before .before .is-plain .ensures) ∙ c .before .before .before .before .if2 .taken in
+    rw (← (c .before .before .before .before .before .before .before .before .is-regular .ensures), c .before .before .before .before .before .before .before .if1 .taken, ← (batch-form-is (a .force-quotes) (a .arg .now)), ← (c .before .before .before .before .before .before .needs-batch-quotes .ensures), plain-formed true (a .arg .now) plain) (c .before .before .put-plain .ensures)
 
-put-raw-requires : tie.Need-put-raw-requires
-put-raw-requires c κs = search needs
+put-form-requires : tie.Need-put-form-requires
+put-form-requires c κs = omega (arith, batch-form-most (c .before .before .before .needs-batch-quotes .result) (c .before .before .before .before .before .before .before .before .args .arg .now))
 
 same-length-2 : tie.Need-same-length-2
 same-length-2 c = search needs
 
 returns-2 : tie.Need-returns-2
-returns-2 c = rw (← (c .before .before .before .before .before .is-regular .ensures), c .before .before .before .before .if1 .left) (c .before .before .put-raw .ensures)
+returns-2 c =
+    let a = c .before .before .before .before .before .before .before .before .before .before .before .args in
+    rw (← (c .before .before .before .before .before .before .before .before .is-regular .ensures), c .before .before .before .before .before .before .before .if1 .taken, ← (batch-form-is (a .force-quotes) (a .arg .now)), ← (c .before .before .before .before .before .before .needs-batch-quotes .ensures)) (c .before .before .put-form .ensures)
+
+put-raw-requires : tie.Need-put-raw-requires
+put-raw-requires c κs = search needs
+
+same-length-3 : tie.Need-same-length-3
+same-length-3 c = search needs
+
+returns-3 : tie.Need-returns-3
+returns-3 c = rw (← (c .before .before .before .before .before .is-regular .ensures), c .before .before .before .before .if1 .left) (c .before .before .put-raw .ensures)
 
 pub append-bat-arg-spec : {M : Type 1} → statement M
 append-bat-arg-spec =
@@ -38,9 +55,13 @@ append-bat-arg-spec =
     (tie.spec
     is-regular-requires
     needs-batch-quotes-requires
-    put-form-requires
+    is-plain-requires
+    put-plain-requires
     same-length
     returns
-    put-raw-requires
+    put-form-requires
     same-length-2
-    returns-2)
+    returns-2
+    put-raw-requires
+    same-length-3
+    returns-3)

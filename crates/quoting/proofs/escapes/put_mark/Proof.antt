@@ -3,8 +3,10 @@ use borrow.Author.Needs.{needs}
 use Prim.Native.Nat.{_+_, _<_, _^_}
 use native.Mathlib.Omega.{arith}
 use borrow.Author.Tests.{eq-eqb, ne-eqb}
-use Rattle.quoting.specs.Emitted.{markFor}
 use mathlib.Core.Path.{refl}
+use lib.ListN.{length-replicate}
+use Rattle.laws.specs.Placed.{both-placed, two-placed}
+use Rattle.quoting.specs.Emitted.{markFor}
 use Rattle.quoting.proofs.Emitting.{mark-length}
 use Rattle.quoting.proofs.escapes.put_mark.Statement.{statement}
 use Rattle.quoting.proofs.escapes.put_mark.Tie as tie
@@ -23,11 +25,7 @@ copy-run-requires : tie.Need-copy-run-requires
 copy-run-requires c κs = search needs
 
 add-result : tie.Need-add-result
-add-result c =
-    let t = c .before .before .before .before .before in
-    let s = t .before .before in
-    let a = s .args in
-    omega (arith, s .pre, rw (ne-eqb _ 34 (t .if1 .taken)) at (mark-length (a .batch) (a .unit) (a .k)))
+add-result c = let a = c .before .before .before .before .before .before .before .args in omega (arith, c .before .before .before .before .before .before .before .pre, rw (ne-eqb _ 34 (c .before .before .before .before .before .if1 .taken)) at (mark-length (a .batch) (a .unit) (a .k)))
 
 same-length : tie.Need-same-length
 same-length c = search needs
@@ -36,28 +34,32 @@ returns : tie.Need-returns
 unfolding markFor
 returns c = rw (ne-eqb _ 34 (c .before .before .before .before .before .if1 .taken)) (record { ends = refl; stores = c .before .before .copy-run .ensures })
 
-put-quotes-requires : tie.Need-put-quotes-requires
-put-quotes-requires c κs = omega (arith, room (c .before .before))
+put-slashes-requires : tie.Need-put-slashes-requires
+put-slashes-requires c κs = omega (arith, room (c .before))
+
+before-quote-requires : tie.Need-before-quote-requires
+before-quote-requires c κs = search needs
+
+put-requires : tie.Need-put-requires
+put-requires c κs = search needs
+
+add-put : tie.Need-add-put
+add-put c = omega (arith, room (c .before .before .before .before .before .before .before .before .before .before), rw length-replicate at (c .before .before .before .before .before .before .before .before .put-slashes .ensures .ends))
+
+put-requires-2 : tie.Need-put-requires-2
+put-requires-2 c κs = search needs
+
+add-result-2 : tie.Need-add-result-2
+add-result-2 c = omega (arith, room (c .before .before .before .before .before .before .before .before .before .before .before .before .before), rw length-replicate at (c .before .before .before .before .before .before .before .before .before .before .before .put-slashes .ensures .ends))
 
 same-length-2 : tie.Need-same-length-2
 same-length-2 c = search needs
 
 returns-2 : tie.Need-returns-2
 unfolding markFor
-returns-2 c = rw (eq-eqb _ 34 (c .before .before .before .before .before .if1 .left), c .before .before .before .before .if2 .taken) (c .before .before .put-quotes .ensures)
-
-add-put-quotes : tie.Need-add-put-quotes
-add-put-quotes c = omega (arith, room (c .before .before))
-
-put-quotes-requires-2 : tie.Need-put-quotes-requires-2
-put-quotes-requires-2 c κs = omega (arith, room (c .before .before))
-
-same-length-3 : tie.Need-same-length-3
-same-length-3 c = search needs
-
-returns-3 : tie.Need-returns-3
-unfolding markFor
-returns-3 c = rw (eq-eqb _ 34 (c .before .before .before .before .before .if1 .left), c .before .before .before .before .if2 .left) (c .before .before .put-quotes2 .ensures)
+returns-2 c =
+    rw (eq-eqb _ 34 (c .before .before .before .before .before .before .before .before .before .before .before .before .before .if1 .left), ← (c .before .before .before .before .before .before .before .before-quote .ensures))
+    (both-placed (c .before .before .before .before .before .before .before .before .before .before .before .put-slashes .ensures) (two-placed _ 34 (c .before .before .before .before .before .before .before .before .before .before .before .put-slashes .result) (c .before .before .before .before .before .before .put .ensures) (c .before .before .put2 .ensures)))
 
 pub put-mark-spec : {M : Type 1} → statement M
 put-mark-spec =
@@ -68,10 +70,11 @@ put-mark-spec =
     add-result
     same-length
     returns
-    put-quotes-requires
+    put-slashes-requires
+    before-quote-requires
+    put-requires
+    add-put
+    put-requires-2
+    add-result-2
     same-length-2
-    returns-2
-    add-put-quotes
-    put-quotes-requires-2
-    same-length-3
-    returns-3)
+    returns-2)

@@ -3,7 +3,7 @@ use borrow.Author.Needs.{needs}
 use Prim.Native.Nat.{_-_}
 use mathlib.Core.Path.{_∙_, refl, sym}
 use lib.ListN.{getD, length}
-use Rattle.laws.specs.Any.{Open, any-one, joined, none-open, part-none, part-one}
+use Rattle.laws.specs.Any.{Open, any-one, or-either, none-open, part-none, part-one}
 use Rattle.laws.specs.Scan.{isEither, isUnit}
 use Rattle.units.proofs.scans.few_have_either.Statement.{statement}
 use Rattle.units.proofs.scans.few_have_either.Tie as tie
@@ -34,7 +34,7 @@ returns c =
     let s = c .before .before .before .before .before .args in
     let i = c .before .before .before .before .loop .i in
     let x = getD (s .units .now) i 0 in
-    part-one (isEither (s .a) (s .b)) (s .units .now) i 1 (any-one _ _ i (c .before .before .before .loop-test .taken) ∙ sym (joined (isUnit (s .a) x) (isUnit (s .b) x)) ∙ c .if1 .taken)
+    part-one (isEither (s .a) (s .b)) (s .units .now) i 1 (any-one _ _ i (c .before .before .before .loop-test .taken) ∙ sym (or-either (isUnit (s .a) x) (isUnit (s .b) x)) ∙ c .if1 .taken)
 
 add-i : tie.Need-add-i Inv-loop μ-loop
 add-i c = search needs
@@ -47,7 +47,7 @@ loop-again c =
     let s = c .before .before .before .before .before .args in
     let i = c .before .before .before .before .loop .i in
     let x = getD (s .units .now) i 0 in
-    part-none (isEither (s .a) (s .b)) (s .units .now) i 1 (c .before .before .before .before .loop .inv) (any-one _ _ i (c .before .before .before .loop-test .taken) ∙ sym (joined (isUnit (s .a) x) (isUnit (s .b) x)) ∙ c .if1 .left)
+    part-none (isEither (s .a) (s .b)) (s .units .now) i 1 (c .before .before .before .before .loop .inv) (any-one _ _ i (c .before .before .before .loop-test .taken) ∙ sym (or-either (isUnit (s .a) x) (isUnit (s .b) x)) ∙ c .if1 .left)
 
 returns-2 : tie.Need-returns-2 Inv-loop μ-loop
 returns-2 c = none-open _ _ _ (c .before .loop .inv) (c .loop-test .left)
