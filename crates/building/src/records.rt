@@ -13,7 +13,7 @@ pub enum Verdict {
 }
 
 // 1: a kind that is none, or a part that exceeds the text. Start and length are widened first, so their sum cannot wrap.
-pub fn is_wrong(text: &[u16], arg: Arg) -> bool
+pub(crate) fn is_wrong(text: &[u16], arg: Arg) -> bool
     ensures { λ r. ⌜ r ≡ isWrong (now (text .entry)) arg ⌝ }
 {
     if kinds::is_no_kind(arg.kind) {
@@ -23,7 +23,7 @@ pub fn is_wrong(text: &[u16], arg: Arg) -> bool
 }
 
 // The record of an index, or one of zeros where the list has none.
-pub fn record_at(records: &[u32], index: usize) -> Arg
+pub(crate) fn record_at(records: &[u32], index: usize) -> Arg
     ensures { λ r. ⌜ r ≡ getD (recordsOf (now (records .entry))) index noArg ⌝ }
 {
     if records.len() / 3 <= index {

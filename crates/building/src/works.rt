@@ -55,7 +55,7 @@ pub fn begin(batch: bool, force: bool, count: usize) -> Work
 }
 
 // Behind the first pass, where the records are judged already.
-pub fn begin_judged(batch: bool, force: bool, count: usize, verdict: Verdict) -> Work
+pub(crate) fn begin_judged(batch: bool, force: bool, count: usize, verdict: Verdict) -> Work
     ensures { λ r. ⌜ r ≡ begun batch force count verdict ⌝ }
 {
     let work = begin_at(batch, force, count, count);
@@ -66,7 +66,7 @@ pub fn begin_judged(batch: bool, force: bool, count: usize, verdict: Verdict) ->
 }
 
 // Into another pass, with so many units.
-pub fn enter(work: Work, pass: Pass, units: usize) -> Work
+pub(crate) fn enter(work: Work, pass: Pass, units: usize) -> Work
     ensures { λ r. ⌜ r ≡ entered work pass units ⌝ }
 {
     let style = work.style;
@@ -83,7 +83,7 @@ pub fn enter(work: Work, pass: Pass, units: usize) -> Work
 }
 
 // No further: refused.
-pub fn stop(work: Work, refusal: Refusal) -> Work
+pub(crate) fn stop(work: Work, refusal: Refusal) -> Work
     ensures { λ r. ⌜ r ≡ stopped work refusal ⌝ }
 {
     let style = work.style;
@@ -100,7 +100,7 @@ pub fn stop(work: Work, refusal: Refusal) -> Work
 }
 
 // No further: the line is written, and has so many units.
-pub fn finish(work: Work, units: usize) -> Work
+pub(crate) fn finish(work: Work, units: usize) -> Work
     ensures { λ r. ⌜ r ≡ finished work units ⌝ }
 {
     let style = work.style;
@@ -117,7 +117,7 @@ pub fn finish(work: Work, units: usize) -> Work
 }
 
 // To the next record of the pass, or no further.
-pub fn go_on(work: Work, progress: Progress) -> Work
+pub(crate) fn go_on(work: Work, progress: Progress) -> Work
     requires { ⌜ work .at < work .count ⌝ }
     ensures { λ r. ⌜ r ≡ progressed work progress ⌝ }
 {
