@@ -20,6 +20,7 @@ use Rattle.rules.specs.Outcome.{Outcome, done, refused, refuse, sound, wrongIf,
 use Rattle.rules.specs.Record.{Argument, argumentOf, argumentFinding, argumentFault, flatOf}
 use Rattle.rules.specs.Building.{isNoScript, eitherLine}
 use Rattle.rules.specs.Answer.{refusal, refusalSaid, wrote, builtSaid, Answered}
+use Rattle.laws.specs.Answer.{refusalOf, refusal-back, some-number}
 use Rattle.laws.specs.Store.{sets-append, sets-front}
 use Rattle.laws.specs.Placed.{Left, less-left}
 use Rattle.building.specs.declared.styles.Style.{Style}
@@ -34,7 +35,7 @@ use Rattle.building.specs.Limits.{limitOf, countCap, counted, cap-covers
 use Rattle.building.specs.Records.{isWrong, noArg, recordsOf, verdictFault}
 use Rattle.building.specs.Line.{nameOf, headOf, endOf, frameUnits, rowOf, wholeLine, breaksLine, unitsFinding, lineLimited, lineNamed, lineOutcome}
 use Rattle.building.specs.Passes.{mostUnits, stored, piece, passed, passedOut}
-use Rattle.building.specs.Works.{begunAt, begun, entered, stopped, progressed, opened, openedOut, ended, closedIn, closedOut, Turned}
+use Rattle.building.specs.Works.{begunAt, begun, answerOf, entered, stopped, progressed, opened, openedOut, ended, closedIn, closedOut, Turned}
 use Rattle.building.specs.Flat.{whole-count, flat-records, flat-back, faults-whole}
 use Rattle.building.specs.Both.{either-is}
 use Rattle.building.specs.Rows.{mostOf, row-most, whole-length}
@@ -133,7 +134,7 @@ module _ (o : Outcome (List ℕ)) (lent text : List ℕ) (all : List Arg) (first
   pub record Stands (w : Work) (out : List ℕ) : Type 0 where
     pub counts : w .count ≡ length all
     pub within : w .at ≤ length all
-    pub due : pick (w .going) (Owes (w .pass) (w .style) (w .at + 1) (drop (w .at) all) (w .units) out) (Answered o (builtSaid (w .answer)) first out)
+    pub due : pick (w .going) (Owes (w .pass) (w .style) (w .at + 1) (drop (w .at) all) (w .units) out) (Answered o (builtSaid (answerOf w)) first out)
 
   -- a refusal is answered, and nothing has changed
   refused-here : (r : Refusal) {number place : ℕ} {out : List ℕ} → refusalSaid r ≡ refusal number place → o ≡ refused number place → out ≡ first
@@ -251,7 +252,7 @@ module _ (o : Outcome (List ℕ)) (lent text : List ℕ) (all : List Arg) (first
     where
       go : {p : Progress} {out′ : List ℕ} → Going (w .pass) (w .style) (w .at + 1 + 1) (drop (w .at + 1) all) out′ p → Nearer (w .pass) (w .at) (progressed w p) out′
       go (on h′) = (record { counts = counts; within = omega (arith, l); due = h′ }, take-less (w .pass) (length all) (w .at) l)
-      go (over h′) = (record { counts = counts; within = omega (arith, l); due = h′ }, take-some (w .pass) (length all) (w .at) (omega (arith, l)))
+      go (over {r} h′) = (record { counts = counts; within = omega (arith, l); due = rw (some-number r, refusal-back r) h′ }, take-some (w .pass) (length all) (w .at) (omega (arith, l)))
 
   -- ---- the stage behind a pass
 
@@ -298,7 +299,7 @@ module _ (o : Outcome (List ℕ)) (lent text : List ℕ) (all : List Arg) (first
 
     -- 7, then 5 for the name; then the units pass
     close-records : {place : ℕ} → OwesRecords s place [] out → Nearer Records (w .at) (closedIn Records lent (length out) w) out
-    unfolding faultFrom lineNamed
+    unfolding faultFrom lineNamed refusalOf
     close-records h = go (both (s .batch) (isNoScript lent)) (any isNul (nameOf (s .batch) lent)) (h .owes)
       where
         go : (b c : Bool)
@@ -350,6 +351,7 @@ module _ (o : Outcome (List ℕ)) (lent text : List ℕ) (all : List Arg) (first
 
     -- 2, then 4; else into writing
     close-measure : OwesMeasure s [] (w .units) out → Nearer Measure (w .at) (closedIn Measure lent (length out) w) (closedOut Measure lent w out)
+    unfolding refusalOf
     close-measure h = go (decLe (w .units) (limitOf (s .batch)))
       where
         counted-all : w .units ≡ counted 0 (length (whole s))
@@ -417,7 +419,7 @@ module _ (o : Outcome (List ℕ)) (lent text : List ℕ) (all : List Arg) (first
           (closes w before (s .counts) (s .within) (w .pass) (w .at + 1) (rw (drop-of-length-le all l) at owed))
 
   -- behind the last turn building has answered
-  pub stands-last : {w : Work} {out : List ℕ} → Stands w out → w .going ≡ false → Answered o (builtSaid (w .answer)) first out
+  pub stands-last : {w : Work} {out : List ℕ} → Stands w out → w .going ≡ false → Answered o (builtSaid (answerOf w)) first out
   stands-last s g = rw g at (s .due)
 
 -- ---- before the first turn
@@ -425,7 +427,7 @@ module _ (o : Outcome (List ℕ)) (lent text : List ℕ) (all : List Arg) (first
 -- the records are judged already
 pub stands-judged : (batch force : Bool) (lent records text out : List ℕ) (v : Verdict) → verdictFault v ≡ argumentFault text records
     → Stands (eitherLine batch force lent records text (length out)) lent text (recordsOf records) out (begun batch force (length records / 3) v) out
-unfolding lineOutcome faultFrom
+unfolding lineOutcome faultFrom refusalOf
 stands-judged batch force lent records text out Sound e =
     let is = either-is batch force lent records text (length out) in
     let n = whole-count records in

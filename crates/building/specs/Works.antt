@@ -3,16 +3,19 @@ use Prim.Native.Nat.{ℕ, _+_}
 use mathlib.Core.Path.{_≡_}
 use mathlib.Core.Bool.{Bool, true, false}
 use mathlib.Core.List.{List}
-use lib.Dec.{leb, ltb}
+use lib.Dec.{eqb, leb, ltb}
 use lib.ListN.{length}
 use lib.Seq.{sets}
 use Rattle.rules.specs.declared.Arg.{Arg}
 use Rattle.rules.specs.declared.Refusal.{Refusal}
 use Rattle.rules.specs.declared.Refusal.the-variants as Refusal
+use Rattle.rules.specs.declared.Built.{Built}
 use Rattle.rules.specs.declared.Built.the-variants as Built
+use Rattle.rules.specs.Answer.{numberOf, placeOf}
 use Rattle.rules.specs.Choice.{pick, both, any}
 use Rattle.rules.specs.Unit.{isNul}
 use Rattle.rules.specs.Building.{isNoScript}
+use Rattle.laws.specs.Answer.{refusalOf}
 use Rattle.building.specs.declared.records.Verdict.{Verdict}
 use Rattle.building.specs.declared.records.Verdict.the-variants.{Sound, Wrong}
 use Rattle.building.specs.declared.works.Pass.{Pass}
@@ -29,29 +32,33 @@ use Rattle.building.specs.Passes.{passed, passedOut}
 -- at a record of the record pass
 abbrev pub begunAt : Bool → Bool → ℕ → ℕ → Work
 begunAt batch force count at =
-    record { style = record { batch = batch; force = force }; count = count; pass = Records; units = 0; at = at; answer = Built.Line 0; going = true }
+    record { count = count; units = 0; at = at; place = 0; number = 0; style = record { batch = batch; force = force }; pass = Records; going = true }
 
 -- at the first record of another pass
 abbrev pub entered : Work → Pass → ℕ → Work
-entered w pass units = record { style = w .style; count = w .count; pass = pass; units = units; at = 0; answer = w .answer; going = true }
+entered w pass units = record { count = w .count; units = units; at = 0; place = 0; number = 0; style = w .style; pass = pass; going = true }
 
 -- refused
 abbrev pub stopped : Work → Refusal → Work
-stopped w r = record { style = w .style; count = w .count; pass = w .pass; units = w .units; at = w .at; answer = Built.Refused r; going = false }
+stopped w r = record { count = w .count; units = w .units; at = w .at; place = placeOf r; number = numberOf r; style = w .style; pass = w .pass; going = false }
 
 -- a line of so many units
 abbrev pub finished : Work → ℕ → Work
-finished w units = record { style = w .style; count = w .count; pass = w .pass; units = units; at = w .at; answer = Built.Line units; going = false }
+finished w units = record { count = w .count; units = units; at = w .at; place = 0; number = 0; style = w .style; pass = w .pass; going = false }
 
 -- at the next record, or refused
 abbrev pub progressed : Work → Progress → Work
-progressed w (On units) = record { style = w .style; count = w .count; pass = w .pass; units = units; at = w .at + 1; answer = w .answer; going = true }
+progressed w (On units) = record { count = w .count; units = units; at = w .at + 1; place = 0; number = 0; style = w .style; pass = w .pass; going = true }
 progressed w (Stopped r) = stopped w r
 
 -- behind the record pass, where the records are judged already
 abbrev pub begun : Bool → Bool → ℕ → Verdict → Work
 begun batch force count Sound = begunAt batch force count count
 begun batch force count (Wrong place) = stopped (begunAt batch force count count) (Refusal.Record place)
+
+-- the answer of a state that does not go on
+abbrev pub answerOf : Work → Built
+answerOf w = pick (eqb (w .number) 0) (Built.Line (w .units)) (Built.Refused (refusalOf (w .number) (w .place)))
 
 -- ---- the stage behind a pass
 

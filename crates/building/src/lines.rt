@@ -26,5 +26,5 @@ pub fn build(
         let arg = records::record_at(records, work.at);
         work = turns::turn(work, arg, &classes, lent, text, out);
     }
-    work.answer
+    works::answer_of(work)
 }

@@ -1,11 +1,12 @@
 // Building a line as a state by value: the passes over the records, and how the state moves from one record and one pass to the next.
 ghost use mathlib.Core.Path.{_≡_};
 ghost use Prim.Native.Nat.{_<_};
-ghost use Rattle.building.specs.Works.{begun, begunAt, entered, stopped, finished, progressed};
+ghost use Rattle.building.specs.Works.{begun, begunAt, entered, stopped, finished, progressed, answerOf};
 use crate::records::Verdict;
 use crate::styles::Style;
 use rules::Built;
 use rules::Refusal;
+use units::refusals;
 
 // What a pass does with each record: judge the record; judge the units that it names, and count the most that they can take; count its form; write it.
 pub enum Pass {
@@ -21,28 +22,31 @@ pub enum Progress {
     Stopped(Refusal),
 }
 
-// Where building stands: the pass, the units that it has counted, how many records it has taken; and, once it does not go on, the answer.
+// Where building stands: the pass, the units that it has counted, how many records it has taken; and, once it does not go on, the units of the line or
+// the refusal, by number and place. Its enum is not carried along: the padding of it would be copied at every turn, at the cost of half the speed.
 pub struct Work {
-    pub style: Style,
     pub count: usize,
-    pub pass: Pass,
     pub units: usize,
     pub at: usize,
-    pub answer: Built,
+    pub place: usize,
+    pub number: u32,
+    pub style: Style,
+    pub pass: Pass,
     pub going: bool,
 }
 
-// Before the record pass, at a record of it.
+// At a record of the record pass.
 fn begin_at(batch: bool, force: bool, count: usize, at: usize) -> Work
     ensures { λ r. ⌜ r ≡ begunAt batch force count at ⌝ }
 {
     Work {
-        style: Style { batch, force },
         count,
-        pass: Pass::Records,
         units: 0,
         at,
-        answer: Built::Line { units: 0 },
+        place: 0,
+        number: 0,
+        style: Style { batch, force },
+        pass: Pass::Records,
         going: true,
     }
 }
@@ -70,14 +74,14 @@ pub(crate) fn enter(work: Work, pass: Pass, units: usize) -> Work
     ensures { λ r. ⌜ r ≡ entered work pass units ⌝ }
 {
     let style = work.style;
-    let answer = work.answer;
     Work {
-        style,
         count: work.count,
-        pass,
         units,
         at: 0,
-        answer,
+        place: 0,
+        number: 0,
+        style,
+        pass,
         going: true,
     }
 }
@@ -89,12 +93,13 @@ pub(crate) fn stop(work: Work, refusal: Refusal) -> Work
     let style = work.style;
     let pass = work.pass;
     Work {
-        style,
         count: work.count,
-        pass,
         units: work.units,
         at: work.at,
-        answer: Built::Refused(refusal),
+        place: refusals::place_of(refusal),
+        number: refusals::number_of(refusal),
+        style,
+        pass,
         going: false,
     }
 }
@@ -106,12 +111,13 @@ pub(crate) fn finish(work: Work, units: usize) -> Work
     let style = work.style;
     let pass = work.pass;
     Work {
-        style,
         count: work.count,
-        pass,
         units,
         at: work.at,
-        answer: Built::Line { units },
+        place: 0,
+        number: 0,
+        style,
+        pass,
         going: false,
     }
 }
@@ -123,17 +129,27 @@ pub(crate) fn go_on(work: Work, progress: Progress) -> Work
 {
     let style = work.style;
     let pass = work.pass;
-    let answer = work.answer;
     match progress {
         Progress::On(units) => Work {
-            style,
             count: work.count,
-            pass,
             units,
             at: work.at + 1,
-            answer,
+            place: 0,
+            number: 0,
+            style,
+            pass,
             going: true,
         },
         Progress::Stopped(refusal) => stop(work, refusal),
     }
+}
+
+// The answer, once the work does not go on.
+pub fn answer_of(work: Work) -> Built
+    ensures { λ r. ⌜ r ≡ answerOf work ⌝ }
+{
+    if work.number == 0 {
+        return Built::Line { units: work.units };
+    }
+    Built::Refused(refusals::refusal_of(work.number, work.place))
 }

@@ -14,12 +14,12 @@ use Rattle.rules.specs.declared.Parsed.{Parsed}
 use Rattle.rules.specs.declared.Parsed.the-variants as Parsed
 use Rattle.rules.specs.Choice.{pick}
 use Rattle.rules.specs.Outcome.{Outcome}
-use Rattle.rules.specs.Answer.{Said, refusalSaid, builtSaid, filledSaid, parsedSaid, Answered, Read}
+use Rattle.rules.specs.Answer.{Said, numberOf, placeOf, refusalSaid, builtSaid, filledSaid, parsedSaid, Answered, Read}
 
 -- ---- back from what is said to the answer
 
 -- the refusal of a number and a place
-unfoldable refusalOf : ℕ → ℕ → Refusal
+unfoldable pub refusalOf : ℕ → ℕ → Refusal
 refusalOf number place =
     pick (eqb number 1) (Refusal.Record place)
     (pick (eqb number 2) Refusal.Length
@@ -27,7 +27,8 @@ refusalOf number place =
     (pick (eqb number 4) Refusal.Room
     (pick (eqb number 5) (Refusal.Nul place) (pick (eqb number 6) (Refusal.LineBreak place) Refusal.Script)))))
 
-refusal-back : (r : Refusal) → refusalOf (refusalSaid r .number) (refusalSaid r .place) ≡ r
+-- every refusal is that of its number and its place
+pub refusal-back : (r : Refusal) → refusalOf (numberOf r) (placeOf r) ≡ r
 unfolding refusalOf
 refusal-back (Refusal.Record place) = refl
 refusal-back Refusal.Length = refl
@@ -50,7 +51,7 @@ unfoldable parsedOf : Said → Parsed
 parsedOf s = pick (eqb (s .number) 0) (Parsed.Arguments (s .arguments) (s .units)) (Parsed.Refused (refusalOf (s .number) (s .place)))
 
 -- a refusal's number is not 0
-pub some-number : (r : Refusal) → eqb (refusalSaid r .number) 0 ≡ false
+pub some-number : (r : Refusal) → eqb (numberOf r) 0 ≡ false
 some-number (Refusal.Record place) = refl
 some-number Refusal.Length = refl
 some-number Refusal.Places = refl

@@ -35,7 +35,7 @@ fn make_line_of(
         }
         work = turns::turn(work, arg, table, lent, text, out);
     }
-    work.answer
+    works::answer_of(work)
 }
 
 // Builds an ordinary command line from a slice of records. In the Rust: `make_command_line`.

@@ -1,6 +1,7 @@
 // A refusal's number and place: the one place in code where the names become the document's numbers.
 ghost use mathlib.Core.Path.{_≡_};
 ghost use Rattle.rules.specs.Answer.{numberOf, placeOf};
+ghost use Rattle.laws.specs.Answer.{refusalOf};
 use rules::Refusal;
 
 // The refusal's number.
@@ -30,5 +31,20 @@ pub fn place_of(r: Refusal) -> usize
         Refusal::Nul(place) => place,
         Refusal::LineBreak(place) => place,
         Refusal::Script => 0,
+    }
+}
+
+// The refusal of a number and a place, where the number is a refusal's.
+pub fn refusal_of(number: u32, place: usize) -> Refusal
+    ensures { λ r. ⌜ r ≡ refusalOf number place ⌝ }
+{
+    match number {
+        1 => Refusal::Record(place),
+        2 => Refusal::Length,
+        3 => Refusal::Places,
+        4 => Refusal::Room,
+        5 => Refusal::Nul(place),
+        6 => Refusal::LineBreak(place),
+        _ => Refusal::Script,
     }
 }

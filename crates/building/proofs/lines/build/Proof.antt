@@ -51,11 +51,14 @@ loop-again c =
     let l = r .before .before in
     (turns _ _ _ _ _ (l .loop .inv .0) (r .before .loop-test .taken) (λ h. r .record-at .ensures) (t .turn .ensures) .0, search needs)
 
+answer-of-requires : tie.Need-answer-of-requires Inv-loop μ-loop
+answer-of-requires c κs = search needs
+
 same-length : tie.Need-same-length Inv-loop μ-loop
 same-length c = search needs
 
 returns : tie.Need-returns Inv-loop μ-loop
-returns c = stands-last _ _ _ _ _ (c .before .loop .inv .0) (c .loop-test .left)
+returns c = rw (c .answer-of .ensures) (stands-last _ _ _ _ _ (c .before .before .loop .inv .0) (c .before .loop-test .left))
 
 pub build-spec : {M : Type 1} → statement M
 build-spec =
@@ -71,5 +74,6 @@ build-spec =
     turn-requires
     loop-less
     loop-again
+    answer-of-requires
     same-length
     returns)

@@ -6,8 +6,8 @@ use Rattle.building.proofs.works.go_on.Tie as tie
 enum-known-progress : tie.Need-enum-known-progress
 enum-known-progress c = search needs
 
-add-t9 : tie.Need-add-t9
-add-t9 c = search needs
+add-t8 : tie.Need-add-t8
+add-t8 c = search needs
 
 enum-known-progress-2 : tie.Need-enum-known-progress-2
 enum-known-progress-2 c = search needs
@@ -24,4 +24,4 @@ returns-2 c = rw (c .before .before .progress2 .given .1) (c .stop .ensures)
 pub go-on-spec : {M : Type 1} → statement M
 go-on-spec =
     tie.close
-    (tie.spec enum-known-progress add-t9 enum-known-progress-2 stop-requires returns returns-2)
+    (tie.spec enum-known-progress add-t8 enum-known-progress-2 stop-requires returns returns-2)
