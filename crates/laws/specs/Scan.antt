@@ -8,7 +8,7 @@ use mathlib.Core.List.{List, [], _∷_, _++_}
 use lib.Dec.{eqb}
 use lib.ListN.{length, getD, take, drop, drop-of-length-le, take-append-drop}
 use lib.Seq.{drop-cons, drop-drop}
-use Rattle.laws.specs.Any.{part-length, twice}
+use Rattle.laws.specs.Any.{any-same, part-length, twice}
 use Rattle.laws.specs.Choice.{apart}
 use Rattle.rules.specs.Record.{part}
 use Rattle.laws.specs.Store.{part-is}
@@ -149,6 +149,10 @@ leading-same p q h (x ∷ xs) = rw (h x, leading-same p q h xs)
 -- one unit looked for, named four times
 pub before-one : (a : ℕ) (xs : List ℕ) → before (isOneOf a a a a) xs ≡ before (isUnit a) xs
 before-one a xs = leading-same _ _ (λ x. rw (twice (isEither a a x), twice (isUnit a x))) xs
+
+-- one unit looked for, named twice
+pub any-twice : (a : ℕ) (xs : List ℕ) → any (isEither a a) xs ≡ any (isUnit a) xs
+any-twice a xs = any-same (isEither a a) (isUnit a) (λ x. twice (isUnit a x)) xs
 
 -- ---- the run at the end
 

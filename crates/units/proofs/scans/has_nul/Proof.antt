@@ -1,8 +1,7 @@
 -- `units::scans::has_nul` meets its contract. Assumes nothing.
 use borrow.Author.Needs.{needs}
 use mathlib.Core.Path.{_∙_}
-use Rattle.laws.specs.Any.{any-same, twice}
-use Rattle.laws.specs.Scan.{isEither, isUnit}
+use Rattle.laws.specs.Scan.{any-twice}
 use Rattle.units.proofs.scans.has_nul.Statement.{statement}
 use Rattle.units.proofs.scans.has_nul.Tie as tie
 
@@ -10,7 +9,7 @@ has-either-requires : tie.Need-has-either-requires
 has-either-requires c κs = search needs
 
 returns : tie.Need-returns
-returns c = c .has-either .ensures ∙ any-same (isEither 0 0) (isUnit 0) (λ x. twice (isUnit 0 x)) (c .before .before .args .units .now)
+returns c = c .has-either .ensures ∙ any-twice 0 (c .before .before .args .units .now)
 
 pub has-nul-spec : {M : Type 1} → statement M
 has-nul-spec = tie.close (tie.spec has-either-requires returns)
