@@ -45,11 +45,6 @@ run-at p rest i {k} h e =
 pub part-run : (rest : List ℕ) (i k : ℕ) → take (i + k - i) (drop i rest) ≡ take k (drop i rest)
 part-run rest i k = let e : i + k - i ≡ k = omega arith in rw e
 
--- where the unit at i passes the test, the run there is not empty
-pub run-some : (p : ℕ → Bool) (rest : List ℕ) (i : ℕ) {k : ℕ} → i < length rest → p (getD rest i 0) ≡ true → k ≡ leading p (drop i rest) → 0 < k
-unfolding leading
-run-some p rest i h e r = rw (r, at rest i h, e) (omega arith)
-
 -- behind a run no unit passes the test
 pub run-stops : (p : ℕ → Bool) (xs : List ℕ) → startsWith p (drop (leading p xs) xs) ≡ false
 unfolding leading startsWith

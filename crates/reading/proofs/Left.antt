@@ -23,7 +23,7 @@ abbrev pub left : List ℕ → ℕ → List (List ℕ)
 left line i = later between 0 [] (drop i line)
 
 -- stores into the rest from n on, or into an empty rest where there is no n, are stores from n on
-pub sets-in : (d v : List ℕ) (n f : ℕ) → f ≡ min n (length d) → take f d ++ sets (drop f d) 0 v ≡ sets d n v
+sets-in : (d v : List ℕ) (n f : ℕ) → f ≡ min n (length d) → take f d ++ sets (drop f d) 0 v ≡ sets d n v
 sets-in d v n f e = go (ltb n (length d)) refl
   where
     go : (b : Bool) → ltb n (length d) ≡ b → take f d ++ sets (drop f d) 0 v ≡ sets d n v
@@ -34,15 +34,15 @@ sets-in d v n f e = go (ltb n (length d)) refl
         rw g (sets-rest d v (length d) (omega arith) ∙ sets-out d (length d) v (omega arith) ∙ sym (sets-out d n v h))
 
 -- two lists stored one after the other, the first of which has m elements
-pub sets-both : (d u v : List ℕ) (n m : ℕ) → m ≡ length u → sets (sets d n u) (n + m) v ≡ sets d n (u ++ v)
+sets-both : (d u v : List ℕ) (n m : ℕ) → m ≡ length u → sets (sets d n u) (n + m) v ≡ sets d n (u ++ v)
 sets-both d u v n m e = rw (e, sets-append)
 
 -- behind the blanks from i on stands no blank
-pub clear-at : (line : List ℕ) (i j : ℕ) → j ≡ i + leading isBlank (drop i line) → startsWith isBlank (drop j line) ≡ false
+clear-at : (line : List ℕ) (i j : ℕ) → j ≡ i + leading isBlank (drop i line) → startsWith isBlank (drop j line) ≡ false
 clear-at line i j e = rw e (stops-at isBlank line i refl)
 
 -- no argument is lost with them
-pub skips-to : (line : List ℕ) (i j : ℕ) → j ≡ i + leading isBlank (drop i line) → left line i ≡ left line j
+skips-to : (line : List ℕ) (i j : ℕ) → j ≡ i + leading isBlank (drop i line) → left line i ≡ left line j
 skips-to line i j e = N.skips-blanks (drop i line) ∙ rw (drop-drop, ← e)
 
 -- i units of the line are used, n units and count arguments are written; what is left goes behind them

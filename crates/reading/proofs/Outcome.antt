@@ -41,14 +41,9 @@ module _ (executable xs : List ℕ) (n : ℕ) (e : n ≡ before isNul xs) where
   line-length = length-take-le n xs (rw e (leading-in (λ x. flip (isNul x)) xs))
 
   -- the arguments are those of this part
-  pub arguments-are : lineArguments (take n xs) executable ≡ argumentsRead executable xs
+  arguments-are : lineArguments (take n xs) executable ≡ argumentsRead executable xs
   unfolding lineArguments argumentsRead
   arguments-are = rw (line-is xs, e)
-
-  -- so what is laid out of this part are the arguments
-  pub all-laid : {text text′ spans spans′ : List ℕ} {count units : ℕ} → Laid (lineArguments (take n xs) executable) text text′ spans spans′ count units
-      → Laid (argumentsRead executable xs) text text′ spans spans′ count units
-  all-laid r = rw arguments-are at r
 
   -- the limit counts so many units
   pub units-are : length (unitsRead executable xs) ≡ pick (eqb n 0) (length executable) n
