@@ -70,7 +70,7 @@ use Rattle.units.proofs.classes.classes.Symbol.{name as #units·classes·classe
 use Rattle.units.proofs.classes.classes.Met as cls-thm
 use Rattle.building.specs.declared.works.Work.{Work}
 use Rattle.building.specs.Records.{noArg}
-use Rattle.building.specs.Works.{begunAt, Turned}
+use Rattle.building.specs.Works.{begunAt, answerOf, Turned}
 use Rattle.building.specs.Turns.{Stands, turnsLeft, turns as turned-on, stands-begun, stands-last}
 use Rattle.slices.proofs.Shapes.{unitsTy, argsTy, outTy, outPtr, arrayTy, arrayPtr, built-typed, array-lies, array-leaves}
 use Rattle.building.proofs.works.Work as S
@@ -79,6 +79,10 @@ use Rattle.building.proofs.works.begin as beg
 use Rattle.building.proofs.works.begin.Symbol as beg-def
 use Rattle.building.proofs.works.begin.Symbol.{name as #building·works·begin}
 use Rattle.building.proofs.works.begin.Met as beg-thm
+use Rattle.building.proofs.works.answer_of as ans
+use Rattle.building.proofs.works.answer_of.Symbol as ans-def
+use Rattle.building.proofs.works.answer_of.Symbol.{name as #building·works·answer-of}
+use Rattle.building.proofs.works.answer_of.Met as ans-thm
 use Rattle.building.proofs.turns.turn as one
 use Rattle.building.proofs.turns.turn.Symbol as one-def
 use Rattle.building.proofs.turns.turn.Symbol.{name as #building·turns·turn}
@@ -106,10 +110,6 @@ work-val w = LL.val S.the-type S′.the-laws w
 -- the machine value of a record
 abbrev arg-val : Arg → Val
 arg-val a = LL.val T.the-type T′.the-laws a
-
--- the machine value of an answer
-abbrev built-val : Built → Val
-built-val r = EL.val B.the-type B′.the-laws r
 
 -- what a turn does once the record is at hand
 abbrev calling : Body
@@ -146,6 +146,10 @@ module _ {M : Type 1} (𝓤 : URA M) (H : Heap 𝓤) (A : Atoms 𝓤) (mem″ : 
   -- of `begin`
   abbrev Begin : Contract 𝓤
   Begin = tripleOf 𝓤 H A beg.signature (beg.spec 𝓤 H A mem″ run)
+
+  -- of `answer_of`
+  abbrev AnswerOf : Contract 𝓤
+  AnswerOf = tripleOf 𝓤 H A ans.signature (ans.spec 𝓤 H A mem″ run)
 
   -- of `turn`
   abbrev Turn : Contract 𝓤
@@ -222,24 +226,35 @@ module _ {M : Type 1} (𝓤 : URA M) (H : Heap 𝓤) (A : Atoms 𝓤) (W : Given
   arg-typed : (a : Arg) → Is T.the-row a (arg-val a ∷ []) → Holds (hasTy T′.mir (arg-val a)) × WT (arg-val a)
   arg-typed a is = LL.lawful T.the-type T′.the-laws 𝓤 H A W .typed a (arg-val a ∷ []) is .0
 
-  -- the answer so far is one
-  answer-is : (t : Up) → Is B.the-row (t .w .answer) (built-val (t .w .answer) ∷ [])
-  answer-is t = LL.owed S.the-type S′.the-laws (t .w) (work-val (t .w) ∷ []) (t .ok) .1 .1 .1 .1 .1 .0
-
   -- ---- the exit
-  exits : (t : Up) → t .w .going ≡ false
-      → ent 𝓤 (⋆ 𝓤 H A (‵ (flft κ₀ q₀) ∷ ‵ (flft κ₁ q₁) ∷ ‵ (flft κ₂ q₂) ∷ ‵ (OwnO κ₃ (out .name) (t .zs) (length d)) ∷ ‵ (flft κ₃ q₃) ∷ [])) (Post (built-val (t .w .answer)))
-  exits t e =
+  exits : (t : Up) (r : Built) (v : Val) → Is B.the-row r (v ∷ []) → r ≡ answerOf (t .w) → t .w .going ≡ false
+      → ent 𝓤 (⋆ 𝓤 H A (‵ (flft κ₀ q₀) ∷ ‵ (flft κ₁ q₁) ∷ ‵ (flft κ₂ q₂) ∷ ‵ (OwnO κ₃ (out .name) (t .zs) (length d)) ∷ ‵ (flft κ₃ q₃) ∷ [])) (Post v)
+  exits t r v is is-answer e =
       qed W (‵ (flft κ₀ q₀) ∷ ‵ (flft κ₁ q₁) ∷ ‵ (flft κ₂ q₂) ∷ ‵ (OwnO κ₃ (out .name) (t .zs) (length d)) ∷ ‵ (flft κ₃ q₃) ∷ []) ∵
       suffices ! _ (ends-at 𝓤 H A all.ended stayed (all.clauses 𝓤 H A mem″ run) W (((κ₀, (κ₁, (κ₂, (κ₃, tt)))), (q₀, (q₁, (q₂, (q₃, tt)))), tt, (batch, (lent, (args, (text, (force, (out, tt)))))), Bound), tt)
-      (built-val (t .w .answer)) (t .w .answer) (tt, (tt, (tt, (tt, (tt, (t .zs, tt)))))) (tt, (tt, (tt, (tt, (tt, (t .len, tt))))))) $
+      v r (tt, (tt, (tt, (tt, (tt, (t .zs, tt)))))) (tt, (tt, (tt, (tt, (tt, (t .len, tt))))))) $
       says ! answered $
       nothing ! $ move ! (5 ∷ 0 ∷ []) $ join ! $ move ! (3 ∷ 0 ∷ []) $ join ! $ move ! (2 ∷ 0 ∷ []) $ join ! $ move ! (1 ∷ 0 ∷ []) $ join ! $ frame ! $
       nothing ! $ move ! (1 ∷ 0 ∷ []) $ fjoin ! $ nothing ! $ fjoin ! $ nothing ! $ fjoin ! $ nothing ! $ fjoin ! $ nothing ! $ fjoin ! $ nothing ! $ fjoin ! $
-      owned ! B.the-row (Is B.the-row) (EL.makes B.the-type B′.the-plain 𝓤 H A) (t .w .answer) (built-val (t .w .answer) ∷ []) (answer-is t) $ move ! (1 ∷ 0 ∷ []) $ done !
+      owned ! B.the-row (Is B.the-row) (EL.makes B.the-type B′.the-plain 𝓤 H A) r (v ∷ []) is $ move ! (1 ∷ 0 ∷ []) $ done !
     where
-      answered : Answered came (builtSaid (t .w .answer)) d (t .zs)
-      answered = stands-last came (lent .now) (text .now) xs d (t .stands) e
+      answered : Answered came (builtSaid r) d (t .zs)
+      answered = subst (λ (x : Built). Answered came (builtSaid x) d (t .zs)) (sym is-answer) (stands-last came (lent .now) (text .now) xs d (t .stands) e)
+
+  -- ---- the call of `answer_of`
+  -- what its triple binds outside
+  abbrev to-answer : Work → AnswerOf 𝓤 H A mem″ run .Ghost
+  to-answer w = ((tt, tt, tt, (w, tt), (work-val w ∷ [], tt)), tt)
+
+  -- it asks for nothing
+  goes-answer : (w : Work) → Is S.the-row w (work-val w ∷ []) → ent 𝓤 (emp 𝓤) (AnswerOf 𝓤 H A mem″ run .pre (to-answer w))
+  goes-answer w is =
+      qed W [] ∵ nothing ! $ nothing ! $ nothing ! $
+      owned ! S.the-row (Is S.the-row) (LL.makes S.the-type S′.the-plain 𝓤 H A) w (work-val w ∷ []) is $ fjoin ! $ move ! (1 ∷ 0 ∷ []) $ join ! $ done !
+
+  -- it answers the answer
+  said-answer : (w : Work) (r : Built) → ent 𝓤 (ensured 𝓤 H A ans.ended (ans.clauses 𝓤 H A mem″ run) tt (w, tt) tt r) (fact 𝓤 (r ≡ answerOf w))
+  said-answer w r = exE 𝓤 _ (λ ws. snd∗ 𝓤 (sem 𝓤 H A (lasts ans.ended tt (w, tt) ws)) (fact 𝓤 (r ≡ answerOf w)))
 
   -- ---- the call of a turn
   -- what `turn`'s triple binds outside: out's units lent for the lifetime ν, under the name δ
@@ -278,7 +293,7 @@ module _ {M : Type 1} (𝓤 : URA M) (H : Heap 𝓤) (A : Atoms 𝓤) (W : Given
   Nearer-wf : WellFounded Nearer
   Nearer-wf = InvImage·wf (λ (t : Up). left (t .w)) (Nat·lt-wfRel .wf)
 
-  module _ (𝓣 : Tables 𝓤 H) (known-turn : Triple 𝓤 (𝓣 .C #building·turns·turn) (Turn 𝓤 H A mem″ run)) (q′ : Share) (ν₀ : ℕ) (γ₀ : GName) (cs : List ℕ) (is-table : cs ≡ classTable)
+  module _ (𝓣 : Tables 𝓤 H) (known-answer : Triple 𝓤 (𝓣 .C #building·works·answer-of) (AnswerOf 𝓤 H A mem″ run)) (known-turn : Triple 𝓤 (𝓣 .C #building·turns·turn) (Turn 𝓤 H A mem″ run)) (q′ : Share) (ν₀ : ℕ) (γ₀ : GName) (cs : List ℕ) (is-table : cs ≡ classTable)
       (l₀ l₁ l₂ l₃ l₄ l₅ l₆ l₇ l₈ l₉ l₁₀ l₁₁ l₁₂ l₁₃ l₁₄ l₁₅ l₁₆ l₁₇ l₁₈ l₁₉ l₂₀ : ℕ) where
     -- the calls
     abbrev C : Calls 𝓤 H
@@ -380,9 +395,9 @@ module _ {M : Type 1} (𝓤 : URA M) (H : Heap 𝓤) (A : Atoms 𝓤) (W : Given
     takes : (t : Up) → t .w .going ≡ true → Sq W (At t) (runs C Λ En body.turn-1 (anyQ (Ended t)))
     unfolding afterTurn
     takes t going =
-        assigns ! (of-opd ! (load ! (from ! (fld ! refl (stop !))) (look-in ! 24 (sub ! 6 refl (whole !))))) (from ! (stop !)) (init ! 14 refl (tt, tt)) $
+        assigns ! (of-opd ! (load ! (from ! (fld ! refl (stop !))) (look-in ! 24 (sub ! 7 refl (whole !))))) (from ! (stop !)) (init ! 14 refl (tt, tt)) $
         rewrite ! 14 (λ (z : Bool). ‵ (fat fullShare tyBool l₁₄ 0 (vbool z))) going refl $ stays ! (load ! (from ! (stop !)) (look ! 14 refl)) $
-        assigns ! (of-opd ! (load ! (from ! (fld ! refl (stop !))) (look-in ! 24 (sub ! 4 refl (whole !))))) (from ! (stop !)) (init ! 22 refl (tt, record { fits = fits })) $
+        assigns ! (of-opd ! (load ! (from ! (fld ! refl (stop !))) (look-in ! 24 (sub ! 2 refl (whole !))))) (from ! (stop !)) (init ! 22 refl (tt, record { fits = fits })) $
         assigns ! (agg ! (and-then ! (lit ! tt) (and-then ! (lit ! tt) (and-then ! (lit ! tt) (no-more !))))) (from ! (stop !)) (init ! 20 refl (arg-typed noArg none-is)) $
         assigns ! (of-opd ! (load ! (from ! (fld ! refl (stop !))) (look-in ! 35 (sub ! 1 refl (whole !))))) (from ! (stop !)) (init ! 12 refl (tt, record { fits = g₁ .0 })) $
         assigns ! (bin ! (load ! (from ! (stop !)) (look ! 22 refl)) (load ! (from ! (stop !)) (look ! 12 refl)) tt) (from ! (stop !)) (store ! 14 refl (tt, tt)) $
@@ -418,10 +433,14 @@ module _ {M : Type 1} (𝓤 : URA M) (H : Heap 𝓤) (A : Atoms 𝓤) (W : Given
     leaves : (t : Up) → t .w .going ≡ false → Sq W (At t) (runs C Λ En body.turn-1 (anyQ (Ended t)))
     unfolding afterTurn
     leaves t over =
-        assigns ! (of-opd ! (load ! (from ! (fld ! refl (stop !))) (look-in ! 24 (sub ! 6 refl (whole !))))) (from ! (stop !)) (init ! 14 refl (tt, tt)) $
+        assigns ! (of-opd ! (load ! (from ! (fld ! refl (stop !))) (look-in ! 24 (sub ! 7 refl (whole !))))) (from ! (stop !)) (init ! 14 refl (tt, tt)) $
         rewrite ! 14 (λ (z : Bool). ‵ (fat fullShare tyBool l₁₄ 0 (vbool z))) over refl $ leaves-loop ! (load ! (from ! (stop !)) (look ! 14 refl)) $
         exec ! C Λ En body.t-7 (atRet En Post) $
-        assigns ! (of-opd ! (load ! (from ! (fld ! refl (stop !))) (look-in ! 24 (sub ! 5 refl (whole !))))) (from ! (stop !)) (init ! 41 refl (built-typed 𝓤 H A W (t .w .answer) (built-val (t .w .answer)) (answer-is t))) $
+        use0 W (raw (AnswerOf 𝓤 H A mem″ run .pre (to-answer (t .w)))) (goes-answer (t .w) (t .ok)) $
+        calls-at ! (fmOf 𝓤 H (W .laws) 𝓣) (AnswerOf 𝓤 H A mem″ run) known-answer (to-answer (t .w)) (and-then ! (load ! (from ! (stop !)) (look ! 25 refl)) (no-more !)) (λ v.
+        use1 W (later (some (λ (r : Built). (‵ ftrue ⊛ ‵ (B.the-row .own r (v ∷ []))) ⊛ raw (ensured 𝓤 H A ans.ended (ans.clauses 𝓤 H A mem″ run) tt (t .w, tt) tt r)))) (id⊢ 𝓤 _) $ await ! tt $ pick ! (λ r.
+        split ! $ move ! (1 ∷ []) $ use1 W (raw (fact 𝓤 (r ≡ answerOf (t .w)))) (said-answer (t .w) r) $ heard ! (r ≡ answerOf (t .w)) (λ is-answer. split ! $ move ! (1 ∷ []) $
+        peeks ! B.the-row (Is B.the-row) (shows 𝓤 H A B.the-row) r (v ∷ []) (λ is. let-go ! $ let-go ! $ land ! (from ! (stop !)) (init ! 41 refl (built-typed 𝓤 H A W r v is)) $
         -- the table comes back, and args and out are shut
         move ! (48 ∷ 53 ∷ []) $ lft-end ! tt $ lent-back ! tt $ use1 W (‵ (froom (arrayTy u8 256) l₇ 0)) (array-leaves 𝓤 H A W u8 256 (uint-vals w8) (uint-tells w8) l₇ cs) $
         move ! (1 ∷ 49 ∷ []) $ shuts-slice ! tt T.the-row q′ xs (args .ptr .0) (args .ptr .1) $
@@ -433,7 +452,7 @@ module _ {M : Type 1} (𝓤 : URA M) (H : Heap 𝓤) (A : Atoms 𝓤) (W : Given
         move ! (43 ∷ 44 ∷ []) $ free1 ! $ move ! (41 ∷ 42 ∷ []) $ free1 ! $ move ! (39 ∷ 40 ∷ []) $ free1 ! $ move ! (37 ∷ 38 ∷ []) $ free1 ! $ move ! (35 ∷ 36 ∷ []) $ free1 ! $ move ! (33 ∷ 34 ∷ []) $ free1 ! $ move ! (31 ∷ 32 ∷ []) $ free1 ! $
         move ! (3 ∷ 30 ∷ []) $ free1 ! $ move ! (27 ∷ 28 ∷ []) $ free1 ! $ move ! (25 ∷ 26 ∷ []) $ free1 ! $ move ! (23 ∷ 24 ∷ []) $ free1 ! $ move ! (21 ∷ 22 ∷ []) $ free1 ! $ move ! (19 ∷ 20 ∷ []) $ free1 ! $ move ! (17 ∷ 18 ∷ []) $ free1 ! $
         move ! (15 ∷ 16 ∷ []) $ free1 ! $ move ! (13 ∷ 14 ∷ []) $ free1 ! $ move ! (11 ∷ 12 ∷ []) $ free1 ! $ move ! (9 ∷ 10 ∷ []) $ free1 ! $ move ! (7 ∷ 8 ∷ []) $ free1 ! $ move ! (5 ∷ 6 ∷ []) $ free1 ! $ move ! (3 ∷ 4 ∷ []) $ free1 ! $
-        free0 ! $ keep ! (6 ∷ 2 ∷ 7 ∷ 0 ∷ 1 ∷ []) $ by ! (exits t over)
+        free0 ! $ keep ! (6 ∷ 2 ∷ 7 ∷ 0 ∷ 1 ∷ []) $ by ! (exits t r v is is-answer over)))))
 
     -- any turn
     turns : (t : Up) → Sq W (At t) (runs C Λ En body.turn-1 (anyQ (Ended t)))
@@ -487,10 +506,10 @@ module _ {M : Type 1} (𝓤 : URA M) (H : Heap 𝓤) (A : Atoms 𝓤) (W : Given
   }
 
   -- the MIR from the entry to the exit
-  walk : (𝓣 : Tables 𝓤 H) → Triple 𝓤 (𝓣 .C #units·classes·classes) (Classes 𝓤 H A mem″ run) → Triple 𝓤 (𝓣 .C #building·works·begin) (Begin 𝓤 H A mem″ run) → Triple 𝓤 (𝓣 .C #building·turns·turn) (Turn 𝓤 H A mem″ run)
+  walk : (𝓣 : Tables 𝓤 H) → Triple 𝓤 (𝓣 .C #units·classes·classes) (Classes 𝓤 H A mem″ run) → Triple 𝓤 (𝓣 .C #building·works·begin) (Begin 𝓤 H A mem″ run) → Triple 𝓤 (𝓣 .C #building·works·answer-of) (AnswerOf 𝓤 H A mem″ run) → Triple 𝓤 (𝓣 .C #building·turns·turn) (Turn 𝓤 H A mem″ run)
       → ent 𝓤 (onEntry 𝓤 H A all.signature (κ₀, (κ₁, (κ₂, (κ₃, tt)))) (q₀, (q₁, (q₂, (q₃, tt)))) (batch, (lent, (args, (text, (force, (out, tt)))))) Bound)
       (WpFn 𝓤 H (𝓣 .C) (𝓣 .Λ) code.function (vbool batch ∷ sliceVal (lent .ptr) (length (lent .now)) ∷ sliceVal (args .ptr) n ∷ sliceVal (text .ptr) (length (text .now)) ∷ vbool force ∷ sliceVal (out .ptr) (length d) ∷ []) Post)
-  walk 𝓣 known-classes known-begin known-turn =
+  walk 𝓣 known-classes known-begin known-answer known-turn =
       qed W ((‵ (flft κ₀ q₀) ⊛ ‵ (flft κ₁ q₁) ⊛ ‵ (flft κ₂ q₂) ⊛ ‵ (flft κ₃ q₃) ⊛ ‵ ftrue)
       ∷ ‵ (owns (bool ∷ ShrSlice (named 0) κ₀ u16 ∷ ShrSlice (named 1) κ₁ T.the-row ∷ ShrSlice (named 2) κ₂ u16 ∷ bool ∷ MutSlice (named 3) κ₃ u16 ∷ []) (batch, (lent, (args, (text, (force, (out, tt)))))) Bound) ∷ []) ∵
       enter ! (𝓣 .C) (𝓣 .Λ) code.function (vbool batch ∷ sliceVal (lent .ptr) (length (lent .now)) ∷ sliceVal (args .ptr) n ∷ sliceVal (text .ptr) (length (text .now)) ∷ vbool force ∷ sliceVal (out .ptr) (length d) ∷ []) _ $
@@ -526,14 +545,14 @@ module _ {M : Type 1} (𝓤 : URA M) (H : Heap 𝓤) (A : Atoms 𝓤) (W : Given
       looks-slice ! tt T.the-row (Is T.the-row) (shows 𝓤 H A T.the-row) (LL.vals T.the-type T′.the-laws) (LL.tells T.the-type T′.the-laws) (LL.copy T.the-type T′.the-copy 𝓤 H A W) xs (args .ptr .0) (args .ptr .1) (λ q′.
       -- [args's elements; what shuts args; its borrow; out's units; what shuts out, 3; true; text's token; lent's; true; text; lent; the result; true; the table; what comes back of it; its token; true; _20; …]
       keep ! (0 ∷ 3 ∷ 19 ∷ 20 ∷ 21 ∷ 22 ∷ 23 ∷ 24 ∷ 25 ∷ 26 ∷ 27 ∷ 28 ∷ 29 ∷ 30 ∷ 31 ∷ 32 ∷ 33 ∷ 34 ∷ 35 ∷ 36 ∷ 37 ∷ 38 ∷ 39 ∷ 40 ∷ 41 ∷ 42 ∷ 43 ∷ 44 ∷ 45 ∷ 46 ∷ 47 ∷ 48 ∷ 49 ∷ 50 ∷ 51 ∷ 52 ∷ 53 ∷ 54 ∷ 55 ∷ 56 ∷ 57 ∷ 58 ∷ 59 ∷ 12 ∷ 11 ∷ 15 ∷ 9 ∷ 8 ∷ 17 ∷ 1 ∷ 4 ∷ 5 ∷ 6 ∷ 16 ∷ []) $
-      begins 𝓣 known-turn q′ ν₀ γ₀ cs is-table l₀ l₁ l₂ l₃ l₄ l₅ l₆ l₇ l₈ l₉ l₁₀ l₁₁ l₁₂ l₁₃ l₁₄ l₁₅ l₁₆ l₁₇ l₁₈ l₁₉ l₂₀
+      begins 𝓣 known-answer known-turn q′ ν₀ γ₀ cs is-table l₀ l₁ l₂ l₃ l₄ l₅ l₆ l₇ l₈ l₉ l₁₀ l₁₁ l₁₂ l₁₃ l₁₄ l₁₅ l₁₆ l₁₇ l₁₈ l₁₉ l₂₀
       (start r (subst (λ (vs : List Val). Is S.the-row r vs) (LL.tells S.the-type S′.the-laws r (u ∷ []) is-work) is-work) is-begun)))))))))))))))))))))))))))))))))
     where
       table-typed : (cs : List ℕ) (v : Val) → Is R cs (v ∷ []) → Holds (hasTy (arrayTy u8 256) v) × WT v
       table-typed cs v is = array-lawful 𝓤 H A W u8 (uint-lawful 𝓤 H A W w8) 256 .typed cs (v ∷ []) is .0
 
 module _ {M : Type 1} (𝓤 : URA M) (H : Heap 𝓤) (A : Atoms 𝓤) (W : Given 𝓤 H A) (mem″ : Memory → SProp 𝓤) (run : Routine → Fun 𝓤) (𝓣 : Tables 𝓤 H)
-    (known-classes : Triple 𝓤 (𝓣 .C #units·classes·classes) (Classes 𝓤 H A mem″ run)) (known-begin : Triple 𝓤 (𝓣 .C #building·works·begin) (Begin 𝓤 H A mem″ run)) (known-turn : Triple 𝓤 (𝓣 .C #building·turns·turn) (Turn 𝓤 H A mem″ run)) where
+    (known-classes : Triple 𝓤 (𝓣 .C #units·classes·classes) (Classes 𝓤 H A mem″ run)) (known-begin : Triple 𝓤 (𝓣 .C #building·works·begin) (Begin 𝓤 H A mem″ run)) (known-answer : Triple 𝓤 (𝓣 .C #building·works·answer-of) (AnswerOf 𝓤 H A mem″ run)) (known-turn : Triple 𝓤 (𝓣 .C #building·turns·turn) (Turn 𝓤 H A mem″ run)) where
   -- the walk, for all parameters
   walks : Walks 𝓤 H A all.ended stayed (WpFn 𝓤 H (𝓣 .C) (𝓣 .Λ) code.function) (all.clauses 𝓤 H A mem″ run)
   walks = walked 𝓤 H A all.ended stayed (all.clauses 𝓤 H A mem″ run) (WpFn 𝓤 H (𝓣 .C) (𝓣 .Λ) code.function)
@@ -541,7 +560,7 @@ module _ {M : Type 1} (𝓤 : URA M) (H : Heap 𝓤) (A : Atoms 𝓤) (W : Given
       (λ κs. (bool-tells, (shr-slice-tells (named 0) (κs .0) u16, (shr-slice-tells (named 1) (κs .1 .0) T.the-row, (shr-slice-tells (named 2) (κs .1 .1 .0) u16, (bool-tells, (mut-slice-tells (named 3) (κs .1 .1 .1 .0) u16, tt)))))))
       (λ κs qs bounds a g are. via 𝓤 _ (fst∗ 𝓤 _ (emp 𝓤))
       (walk 𝓤 H A W mem″ run (κs .0) (κs .1 .0) (κs .1 .1 .0) (κs .1 .1 .1 .0) (qs .0) (qs .1 .0) (qs .1 .1 .0) (qs .1 .1 .1 .0) (a .0) (a .1 .1 .1 .1 .0) (a .1 .0) (a .1 .1 .0) (a .1 .1 .1 .0) (a .1 .1 .1 .1 .1 .0)
-      (are .1 .0 .0 .1) (are .1 .1 .0 .0 .1) (are .1 .1 .1 .0 .0 .1) (are .1 .1 .1 .1 .1 .0 .0 .1) 𝓣 known-classes known-begin known-turn))
+      (are .1 .0 .0 .1) (are .1 .1 .0 .0 .1) (are .1 .1 .1 .0 .0 .1) (are .1 .1 .1 .1 .1 .0 .0 .1) 𝓣 known-classes known-begin known-answer known-turn))
 
   -- so the function meets its contract
   meets : Meets 𝓤 H A all.signature (WpFn 𝓤 H (𝓣 .C) (𝓣 .Λ) code.function) (all.spec 𝓤 H A mem″ run)
@@ -572,4 +591,5 @@ make-line-of-spec 𝓤 H 𝓜 𝓖 𝓡 =
     (meets 𝓤 H (𝓖 .A) (givenOf 𝓤 H 𝓜 𝓖) (𝓜 .mem) (𝓡 .run) (tablesOf 𝓤 H 𝓜 (tables 𝓤 H 𝓜 𝓡 code.env))
     (cited 𝓤 H (Classes 𝓤 H (𝓖 .A) (𝓜 .mem) (𝓡 .run)) 𝓜 𝓡 code.env #units·classes·classes cls-def.routine code.calls-units·classes·classes (cls-thm.met 𝓤 H 𝓜 𝓖 𝓡))
     (cited 𝓤 H (Begin 𝓤 H (𝓖 .A) (𝓜 .mem) (𝓡 .run)) 𝓜 𝓡 code.env #building·works·begin beg-def.routine code.calls-building·works·begin (beg-thm.met 𝓤 H 𝓜 𝓖 𝓡))
+    (cited 𝓤 H (AnswerOf 𝓤 H (𝓖 .A) (𝓜 .mem) (𝓡 .run)) 𝓜 𝓡 code.env #building·works·answer-of ans-def.routine code.calls-building·works·answer-of (ans-thm.met 𝓤 H 𝓜 𝓖 𝓡))
     (cited 𝓤 H (Turn 𝓤 H (𝓖 .A) (𝓜 .mem) (𝓡 .run)) 𝓜 𝓡 code.env #building·turns·turn one-def.routine code.calls-building·turns·turn (one-thm.met 𝓤 H 𝓜 𝓖 𝓡)))
