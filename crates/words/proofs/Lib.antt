@@ -1,0 +1,4 @@
+pub mod Putting
+pub mod Scanning
+pub mod Holding
+pub mod Lining
