@@ -1,1 +1,1 @@
-pub mod Verb
+pub mod Told

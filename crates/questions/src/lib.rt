@@ -1,163 +1,69 @@
-// The verb of a question, and the question put to what its verb asks.
-ghost use Prim.Native.Nat.{ℕ};
-ghost use mathlib.Core.List.{List};
-ghost use mathlib.Core.Path.{_≡_};
-ghost use lib.ListN.{length};
-ghost use Rattle.lexing.specs.Word.{wordsAt};
-ghost use Rattle.asking.specs.Ask.{Says};
-ghost use Rattle.questions.specs.Verb.{verbOf, lentVerbOf, lentAnswer, verbAnswer, longestIn, answerTo, Lending};
-use asking::asked;
-use asking::replies::headed;
-use lexing::takes::word_end;
-use octets::same;
-use showing::pieces::Answer;
-use showing::shows::Head;
-use units::parts::smaller;
+// The questions: a row of the table and a small function for each, and what an entry point said as an answer.
+use crate::told::brief;
+use replies::answers::Answer;
+use replies::answers::Word;
+use words::lines::Line;
+use words::lines::take_line;
 
-// The most bytes of a question.
-const LONGEST: usize = 400000;
+mod asked;
+mod lent;
+mod told;
 
-// The second set's questions by their verbs.
-pub enum LentVerb {
-    Line,
-    Batch,
-    Env,
-    Status,
-    Read,
-    Argument,
-    Other,
-}
+// Each question's verb, and a letter for each word behind it (`words`, shapes); the last letter stands for all further words, and `.` for none.
+const ROWS: [[u8; 20]; 12] = [
+    *b"read tt.            ",
+    *b"line fta            ",
+    *b"batch fta           ",
+    *b"env e               ",
+    *b"suffix t.           ",
+    *b"status n.           ",
+    *b"lent-line ftttn     ",
+    *b"lent-batch ftttn    ",
+    *b"lent-env ttn        ",
+    *b"lent-status nt.     ",
+    *b"lent-read tttn      ",
+    *b"argument twn        ",
+];
 
-// The questions by their verbs.
-pub enum Verb {
-    Read,
-    Line,
-    Batch,
-    Env,
-    Suffix,
-    Status,
-    Lent(LentVerb),
-}
-
-// The second set's verb that a word is.
-fn lent_verb(word: &[u8]) -> LentVerb
-    ensures { λ r. ⌜ r ≡ lentVerbOf (now (word .entry)) ⌝ }
-{
-    if same(word, b"lent-line") {
-        return LentVerb::Line;
-    }
-    if same(word, b"lent-batch") {
-        return LentVerb::Batch;
-    }
-    if same(word, b"lent-env") {
-        return LentVerb::Env;
-    }
-    if same(word, b"lent-status") {
-        return LentVerb::Status;
-    }
-    if same(word, b"lent-read") {
-        return LentVerb::Read;
-    }
-    if same(word, b"argument") {
-        return LentVerb::Argument;
-    }
-    LentVerb::Other
-}
-
-// The verb that a word is.
-fn verb_of(word: &[u8]) -> Verb
-    ensures { λ r. ⌜ r ≡ verbOf (now (word .entry)) ⌝ }
-{
-    if same(word, b"read") {
-        return Verb::Read;
-    }
-    if same(word, b"line") {
-        return Verb::Line;
-    }
-    if same(word, b"batch") {
-        return Verb::Batch;
-    }
-    if same(word, b"env") {
-        return Verb::Env;
-    }
-    if same(word, b"suffix") {
-        return Verb::Suffix;
-    }
-    if same(word, b"status") {
-        return Verb::Status;
-    }
-    Verb::Lent(lent_verb(word))
-}
-
-// A question of the second set.
-fn ask_lent(
-    verb: LentVerb,
-    question: &[u8],
-    at: usize,
-    name: &mut [u16],
-    text: &mut [u16],
-    numbers: &mut [u32],
-    out: &mut [u16],
-) -> Answer
-    requires { ⌜ Lending (length (now question)) at (length (now name)) (length (now text)) (length (now numbers)) (length (now out)) ⌝ }
-    ensures { λ r. ⌜ ((spans : List ℕ) → Says (lentAnswer verb (wordsAt (now (question .entry)) at)) r (now (out .exit)) spans (now (numbers .exit))) ⌝ }
-{
-    match verb {
-        LentVerb::Line => lending::line(false, question, at, name, text, numbers, out),
-        LentVerb::Batch => lending::line(true, question, at, name, text, numbers, out),
-        LentVerb::Env => lending::env(question, at, text, numbers, out),
-        LentVerb::Status => lending::status(question, at, out),
-        LentVerb::Read => lending::read(question, at, name, text, numbers, out),
-        LentVerb::Argument => lending::one(question, at, text, numbers, out),
-        LentVerb::Other => headed(Head::Bad),
-    }
-}
-
-// A question of either set.
-fn ask_verb(
-    verb: Verb,
-    question: &[u8],
-    at: usize,
-    name: &mut [u16],
-    text: &mut [u16],
+// The question of a row.
+fn ask_row(
+    row: usize,
+    text: &[u16],
     numbers: &mut [u32],
     out: &mut [u16],
     spans: &mut [u32],
-) -> Answer
-    requires { ⌜ Lending (length (now question)) at (length (now name)) (length (now text)) (length (now numbers)) (length (now out)) ⌝ }
-    ensures { λ r. ⌜ Says (verbAnswer (length (now (out .entry))) (length (now (spans .entry))) verb (wordsAt (now (question .entry)) at)) r (now (out .exit)) (now (spans .exit)) (now (numbers .exit)) ⌝ }
-{
-    match verb {
-        Verb::Read => asked::read(question, at, name, text, out, spans),
-        Verb::Line => asked::line(false, question, at, name, text, numbers, out),
-        Verb::Batch => asked::line(true, question, at, name, text, numbers, out),
-        Verb::Env => asked::env(question, at, text, numbers, out),
-        Verb::Suffix => asked::suffix(question, at, name),
-        Verb::Status => asked::status(question, at, numbers, out),
-        Verb::Lent(lent) => ask_lent(lent, question, at, name, text, numbers, out),
+) -> Answer {
+    match row {
+        0 => asked::read(text, numbers, out, spans),
+        1 => asked::line(false, text, numbers, out, spans),
+        2 => asked::line(true, text, numbers, out, spans),
+        3 => asked::env(text, numbers, out, spans),
+        4 => asked::suffix(text, numbers),
+        5 => asked::status(numbers, out, spans),
+        6 => lent::line(false, text, numbers, out, spans),
+        7 => lent::line(true, text, numbers, out, spans),
+        8 => lent::env(text, numbers, out, spans),
+        9 => lent::status(text, numbers, out, spans),
+        10 => lent::read(text, numbers, out, spans),
+        11 => lent::argument(text, numbers, out, spans),
+        _ => brief(Word::Bad, 0, 0, 0, 0),
     }
 }
 
-// Answers a question. It takes at most as many bytes as the protocol does, and as there are elements in each of what is lent.
+// Answers a question.
 pub fn ask(
-    question: &[u8],
-    name: &mut [u16],
+    line: &[u8],
     text: &mut [u16],
     numbers: &mut [u32],
     out: &mut [u16],
     spans: &mut [u32],
-) -> Answer
-    ensures { λ r. ⌜ Says (answerTo (longestIn (length (now (name .entry))) (length (now (text .entry))) (length (now (numbers .entry))) (length (now (out .entry)))) (length (now (out .entry))) (length (now (spans .entry))) (now (question .entry))) r (now (out .exit)) (now (spans .exit)) (now (numbers .exit)) ⌝ }
-{
-    let lists = smaller(numbers.len(), out.len());
-    let texts = smaller(name.len(), text.len());
-    if smaller(LONGEST, smaller(texts, lists)) < question.len() {
-        return headed(Head::Bad);
+) -> Answer {
+    match take_line(&ROWS, line, text, numbers) {
+        Line::By(row, held) => {
+            let units = held.units;
+            let count = held.count;
+            ask_row(row, &text[..units], &mut numbers[..count], out, spans)
+        }
+        Line::Bad => brief(Word::Bad, 0, 0, 0, 0),
     }
-    if question.len() == 0 {
-        return headed(Head::Bad);
-    }
-    let end = word_end(question, 0);
-    let verb = verb_of(&question[..end]);
-    ask_verb(verb, question, end + 1, name, text, numbers, out, spans)
 }

@@ -1,4 +1,0 @@
-pub mod Replying
-pub mod Signing
-pub mod Telling
-pub mod Asking

@@ -1,4 +1,0 @@
-pub mod Putting
-pub mod Scanning
-pub mod Nexting
-pub mod Gathering

@@ -1,2 +1,0 @@
-pub mod Putting
-pub mod Stepping
