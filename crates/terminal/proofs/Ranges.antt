@@ -3,7 +3,7 @@ use Prim.Native.Nat.{ℕ, _≤_, _<_}
 use mathlib.Core.Path.{_≡_, refl}
 use mathlib.Core.Bool.{Bool, true, false}
 use lib.Dec.{leb}
-use borrow.Author.Tests.{le-leb, lt-leb, leb-true}
+use borrow.Author.Tests.{le-leb, lt-leb}
 use Rattle.rules.specs.Choice.{both}
 use Rattle.rules.specs.Unit.{within}
 
@@ -23,12 +23,3 @@ module _ (least most x : ℕ) where
       go : (b : Bool) → both b (leb x most) ≡ false
       go true = lt-leb x most h
       go false = refl
-
--- two tests that hold together hold each
-pub both-true : (a b : Bool) → both a b ≡ true → (a ≡ true) × (b ≡ true)
-both-true true b h = (refl, h)
-both-true false b h = (h, cc)
-
--- what is in a range is so
-pub in-bounds : (least most x : ℕ) → within least most x ≡ true → (least ≤ x) × (x ≤ most)
-in-bounds least most x h = let b = both-true (leb least x) (leb x most) h in (leb-true least x (b .0), leb-true x most (b .1))

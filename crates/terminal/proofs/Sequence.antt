@@ -7,11 +7,11 @@ use mathlib.Core.List.{List, [], _∷_}
 use lib.Dec.{leb, ltb}
 use lib.ListN.{length, getD}
 use borrow.Author.Tests.{lt-ltb, le-ltb, le-leb, lt-leb, leb-true, ltb-true}
-use Rattle.rules.specs.Choice.{pick, either, both}
+use Rattle.rules.specs.Choice.{pick, both}
 use Rattle.rules.specs.Unit.{within}
 use Rattle.terminal.specs.declared.utf8.Lead.{Lead}
 use Rattle.terminal.specs.declared.utf8.Scalar.{Scalar}
-use Rattle.terminal.specs.Utf8.{leadOf, rowOf, isTail, isWhole, valueOf, noScalar, scalarOf}
+use Rattle.terminal.specs.Utf8.{leadOf, rowOf, areTails, isWhole, valueOf, noScalar, scalarOf}
 use Rattle.terminal.proofs.Ranges.{in-range, below, above}
 
 -- ---- the rows
@@ -87,27 +87,10 @@ module _ (count least most : ℕ) (xs : List ℕ) where
     unfolding isWhole
     whole-one h = rw (lt-ltb 0 count (omega arith), le-leb count (length xs) enough, lt-ltb count 2 h)
 
-    module _ (two : 2 ≤ count) where
-      -- it hangs on the second byte and what is behind it
-      pub whole-more : isWhole count least most xs
-          ≡ both (within least most (getD xs 1 0)) (either (ltb count 3) (both (isTail (getD xs 2 0)) (either (ltb count 4) (isTail (getD xs 3 0)))))
-      unfolding isWhole
-      whole-more = rw (lt-ltb 0 count (omega arith), le-leb count (length xs) enough, le-ltb count 2 two)
-
-      pub second-below : getD xs 1 0 < least → isWhole count least most xs ≡ false
-      second-below h = whole-more ∙ rw (below least most (getD xs 1 0) h)
-
-      pub second-above : most < getD xs 1 0 → isWhole count least most xs ≡ false
-      second-above h = whole-more ∙ rw (above least most (getD xs 1 0) h)
-
-      module _ (a : least ≤ getD xs 1 0) (b : getD xs 1 0 ≤ most) where
-        -- two bytes
-        pub whole-two : count < 3 → isWhole count least most xs ≡ true
-        whole-two h = whole-more ∙ rw (in-range least most (getD xs 1 0) a b, lt-ltb count 3 h)
-
-        -- it hangs on the third byte and the one behind it
-        pub whole-third : 3 ≤ count → {t : Bool} → t ≡ isTail (getD xs 2 0) → isWhole count least most xs ≡ both t (either (ltb count 4) (isTail (getD xs 3 0)))
-        whole-third h e = whole-more ∙ rw (in-range least most (getD xs 1 0) a b, le-ltb count 3 h, ← e)
+    -- it hangs on the second byte and those behind it
+    pub whole-more : 2 ≤ count → {t : Bool} → t ≡ within least most (getD xs 1 0) → isWhole count least most xs ≡ both t (areTails count xs)
+    unfolding isWhole
+    whole-more two e = rw (lt-ltb 0 count (omega arith), le-leb count (length xs) enough, le-ltb count 2 two, ← e)
 
 -- ---- the character
 

@@ -1,4 +1,4 @@
--- Small examples that pin what is read and what is shown, in one statement. Assumes nothing.
+-- Small examples that pin what is read. Assumes nothing.
 use mathlib.Core.Path.{_≡_, refl}
 use mathlib.Core.List.{[], _∷_, map}
 use Rattle.rules.specs.Unit.{units}
@@ -6,7 +6,6 @@ use Rattle.laws.specs.Scan.{leading}
 use Rattle.terminal.specs.declared.numbers.Number.{Number}
 use Rattle.terminal.specs.declared.numbers.Number.the-variants as Number
 use Rattle.terminal.specs.Utf8.{goodBytes, goodUnits}
-use Rattle.terminal.specs.Shown.{shown}
 use Rattle.terminal.specs.Number.{numberOf}
 use Rattle.terminal.specs.Word.{keyLength}
 
@@ -33,22 +32,6 @@ pub read-ill : map goodBytes
     ≡ 2 ∷ 1 ∷ 0 ∷ 0 ∷ 0 ∷ 0 ∷ 0 ∷ 1 ∷ 2 ∷ []
 unfolding goodBytes
 read-ill = refl
-
--- A unit that can be seen is shown in UTF-8, any other as `{hex}`: a blank, a tab and NUL, braces, й, €, the blank that does not break, 😀, a
--- high surrogate before a letter, and a low one before a high one.
-pub shown-so : map shown
-    ((97 ∷ 32 ∷ 98 ∷ [])
-    ∷ (9 ∷ 0 ∷ [])
-    ∷ (123 ∷ 125 ∷ [])
-    ∷ (1081 ∷ 8364 ∷ 160 ∷ [])
-    ∷ (55357 ∷ 56832 ∷ [])
-    ∷ (55357 ∷ 97 ∷ [])
-    ∷ (56832 ∷ 55357 ∷ [])
-    ∷ [])
-    ≡ units "a b" ∷ units "{9}{0}" ∷ units "{7b}{7d}" ∷ (208 ∷ 185 ∷ 226 ∷ 130 ∷ 172 ∷ units "{a0}") ∷ (240 ∷ 159 ∷ 152 ∷ 128 ∷ []) ∷ units "{d83d}a"
-    ∷ units "{de00}{d83d}" ∷ []
-unfolding shown units
-shown-so = refl
 
 -- numbers: the ends of the range, a 0 in front, one too large, none, and a sign
 pub numbers-so : map numberOf (map units ("0" ∷ "4294967295" ∷ "007" ∷ "4294967296" ∷ "" ∷ "-1" ∷ []))

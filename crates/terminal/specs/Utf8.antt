@@ -37,17 +37,15 @@ leadOf byte =
 abbrev pub isTail : ℕ → Bool
 isTail byte = within 128 191 byte
 
+-- of so many bytes the third and the fourth may stand there
+unfoldable pub areTails : ℕ → List ℕ → Bool
+areTails count bytes = either (ltb count 3) (both (isTail (getD bytes 2 0)) (either (ltb count 4) (isTail (getD bytes 3 0))))
+
 -- the bytes begin with as many as the row asks for, each in its range
 unfoldable pub isWhole : ℕ → ℕ → ℕ → List ℕ → Bool
+unfolding areTails
 isWhole count least most bytes =
-    both (ltb 0 count)
-    (both (leb count (length bytes))
-    (either (ltb count 2)
-    (both (within least most (getD bytes 1 0))
-    (either (ltb count 3)
-    (both (isTail (getD bytes 2 0))
-    (either (ltb count 4)
-    (isTail (getD bytes 3 0))))))))
+    both (ltb 0 count) (both (leb count (length bytes)) (either (ltb count 2) (both (within least most (getD bytes 1 0)) (areTails count bytes))))
 
 -- the bits of a sequence of so many bytes: 7; 5 and 6; 4, 6 and 6; 3, 6, 6 and 6
 unfoldable pub valueOf : ℕ → List ℕ → ℕ

@@ -16,16 +16,20 @@ use Rattle.terminal.specs.Number.{largest}
 use Rattle.terminal.specs.declared.words.Command.{Command}
 use Rattle.terminal.specs.declared.words.Command.the-variants as Command
 
+-- the command that a word names, of those that are asked about one word or none
+unfoldable pub smallCommandOf : List ℕ → Command
+unfolding equal units
+smallCommandOf word =
+    pick (equal word (units "status")) Command.Status
+    (pick (equal word (units "suffix")) Command.Suffix (pick (equal word (units "help")) Command.Help Command.Unknown))
+
 -- the command that a word names
 unfoldable pub commandOf : List ℕ → Command
-unfolding equal units
+unfolding equal units smallCommandOf
 commandOf word =
     pick (equal word (units "read")) Command.Read
     (pick (equal word (units "write")) Command.Write
-    (pick (equal word (units "batch")) Command.Batch
-    (pick (equal word (units "env")) Command.Env
-    (pick (equal word (units "status")) Command.Status
-    (pick (equal word (units "suffix")) Command.Suffix (pick (equal word (units "help")) Command.Help Command.Unknown))))))
+    (pick (equal word (units "batch")) Command.Batch (pick (equal word (units "env")) Command.Env (smallCommandOf word))))
 
 -- the word asks for quotes round each argument
 unfoldable pub isForce : List ℕ → Bool

@@ -1,6 +1,4 @@
-// What a tool at a terminal needs: words in UTF-8 into units, units into bytes that can be shown, numbers, commands and messages.
-pub mod messages;
+// What is typed at a terminal: words in UTF-8 into units, numbers, commands and entries.
 pub mod numbers;
-pub mod shown;
 pub mod utf8;
 pub mod words;

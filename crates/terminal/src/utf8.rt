@@ -1,9 +1,10 @@
 // UTF-8 into UTF-16 units, by the table of well-formed byte sequences.
 ghost use mathlib.Core.Path.{_≡_};
-ghost use Prim.Native.Nat.{_+_, _<_, _≤_, _^_};
+ghost use Prim.Native.Nat.{_+_, _*_, _%_, _<_, _≤_, _^_};
+ghost use Rattle.rules.specs.Unit.{within};
 ghost use lib.ListN.{length};
 ghost use Rattle.laws.specs.Placed.{Placed};
-ghost use Rattle.terminal.specs.Utf8.{leadOf, isTail, isWhole, valueOf, scalarOf, unitsOf, Decoded};
+ghost use Rattle.terminal.specs.Utf8.{leadOf, areTails, isWhole, valueOf, scalarOf, unitsOf, Decoded};
 use units::stores::put;
 
 // A row of the table, for a first byte: how many bytes the sequence has, 0 where none begins so, and the range of its second byte.
@@ -50,14 +51,31 @@ pub fn lead_of(byte: u8) -> Lead
     }
 }
 
-// Whether a byte may stand third or fourth.
-pub fn is_tail(byte: u8) -> bool
-    ensures { λ r. ⌜ r ≡ isTail byte ⌝ }
+// Whether a byte is in a range.
+fn is_between(least: u8, most: u8, byte: u8) -> bool
+    ensures { λ r. ⌜ r ≡ within least most byte ⌝ }
 {
-    if byte < 128 {
+    if byte < least {
         return false;
     }
-    byte <= 191
+    byte <= most
+}
+
+// Whether the third and the fourth of so many bytes may stand there.
+fn are_tails(count: usize, bytes: &[u8]) -> bool
+    requires { ⌜ count ≤ length (now bytes) ⌝ }
+    ensures { λ r. ⌜ r ≡ areTails count (now (bytes .entry)) ⌝ }
+{
+    if count < 3 {
+        return true;
+    }
+    if !is_between(128, 191, bytes[2]) {
+        return false;
+    }
+    if count < 4 {
+        return true;
+    }
+    is_between(128, 191, bytes[3])
 }
 
 // Whether bytes begin with a whole sequence of a row.
@@ -73,22 +91,10 @@ fn is_whole(count: usize, least: u8, most: u8, bytes: &[u8]) -> bool
     if count < 2 {
         return true;
     }
-    if bytes[1] < least {
+    if !is_between(least, most, bytes[1]) {
         return false;
     }
-    if most < bytes[1] {
-        return false;
-    }
-    if count < 3 {
-        return true;
-    }
-    if !is_tail(bytes[2]) {
-        return false;
-    }
-    if count < 4 {
-        return true;
-    }
-    is_tail(bytes[3])
+    are_tails(count, bytes)
 }
 
 // A byte as a number.
@@ -98,25 +104,30 @@ fn wide(byte: u8) -> u32
     byte as u32
 }
 
+// A number with six bits more behind it: the lower six of a byte.
+fn longer(number: u32, byte: u8) -> u32
+    requires { ⌜ number < 65536 ⌝ }
+    ensures { λ r. ⌜ r ≡ number * 64 + byte % 64 ⌝ }
+{
+    number * 64 + wide(byte) % 64
+}
+
 // The character of a sequence of so many bytes.
 fn value_of(count: usize, bytes: &[u8]) -> u32
     requires { ⌜ (0 < count) × (count ≤ length (now bytes)) ⌝ }
     ensures { λ r. ⌜ r ≡ valueOf count (now (bytes .entry)) ⌝ }
 {
-    let a = wide(bytes[0]);
+    let first = wide(bytes[0]);
     if count < 2 {
-        return a % 128;
+        return first % 128;
     }
-    let b = wide(bytes[1]) % 64;
     if count < 3 {
-        return a % 32 * 64 + b;
+        return longer(first % 32, bytes[1]);
     }
-    let c = wide(bytes[2]) % 64;
     if count < 4 {
-        return (a % 16 * 64 + b) * 64 + c;
+        return longer(longer(first % 16, bytes[1]), bytes[2]);
     }
-    let d = wide(bytes[3]) % 64;
-    ((a % 8 * 64 + b) * 64 + c) * 64 + d
+    longer(longer(longer(first % 8, bytes[1]), bytes[2]), bytes[3])
 }
 
 // The character that bytes begin with.

@@ -1,8 +1,7 @@
 // The words of a call: commands, entries, and the places of words in a text.
 ghost use mathlib.Core.Path.{_≡_};
 ghost use Rattle.laws.specs.Scan.{before};
-ghost use Rattle.laws.specs.Equal.{equal};
-ghost use Rattle.terminal.specs.Word.{isEquals, commandOf, isForce, keyLength, Spanned};
+ghost use Rattle.terminal.specs.Word.{isEquals, smallCommandOf, commandOf, isForce, keyLength, Spanned};
 use octets::same;
 use units::stores::put_number;
 
@@ -18,21 +17,20 @@ pub enum Command {
     Unknown,
 }
 
-// Whether two runs of units are the same.
-pub fn same_units(a: &[u16], b: &[u16]) -> bool
-    ensures { λ r. ⌜ r ≡ equal (now (a .entry)) (now (b .entry)) ⌝ }
+// The command that a word names, of those that are asked about one word or none.
+fn small_command_of(word: &[u8]) -> Command
+    ensures { λ r. ⌜ r ≡ smallCommandOf (now (word .entry)) ⌝ }
 {
-    if a.len() != b.len() {
-        return false;
+    if same(word, b"status") {
+        return Command::Status;
     }
-    let mut i = 0;
-    while i < a.len() {
-        if a[i] != b[i] {
-            return false;
-        }
-        i += 1;
+    if same(word, b"suffix") {
+        return Command::Suffix;
     }
-    true
+    if same(word, b"help") {
+        return Command::Help;
+    }
+    Command::Unknown
 }
 
 // The command that a word names.
@@ -51,16 +49,7 @@ pub fn command_of(word: &[u8]) -> Command
     if same(word, b"env") {
         return Command::Env;
     }
-    if same(word, b"status") {
-        return Command::Status;
-    }
-    if same(word, b"suffix") {
-        return Command::Suffix;
-    }
-    if same(word, b"help") {
-        return Command::Help;
-    }
-    Command::Unknown
+    small_command_of(word)
 }
 
 // Whether a word asks for quotes round each argument.

@@ -4,9 +4,9 @@ use Prim.Native.Nat.{_-_, _≤_}
 use native.Mathlib.Omega.{arith}
 use lib.ListN.{getD, length}
 use mathlib.Core.Path.{_∙_, sym}
-use borrow.Author.Tests.{not-false, not-true}
+use borrow.Author.Tests.{leb-true, not-false, not-true}
 use Rattle.terminal.proofs.Counting.{Counted, a-number, no-digit, none-counted, none-empty, one-counted, too-large}
-use Rattle.terminal.proofs.Ranges.{in-bounds}
+use Rattle.laws.specs.Choice.{both-true}
 use Rattle.terminal.proofs.numbers.number_of.Statement.{statement}
 use Rattle.terminal.proofs.numbers.number_of.Tie as tie
 
@@ -24,7 +24,9 @@ digit : (c : tie.Else3 Inv-loop μ-loop)
     → let turn = c .before .before .before .before .before in
     let x = getD (turn .before .before .before .args .word .now) (turn .loop .i) 0 in
     (48 ≤ x) × (x ≤ 57)
-digit c = in-bounds 48 57 _ (sym (c .before .before .is-digit .ensures) ∙ not-false _ (c .before .if2 .left))
+digit c =
+    let (a, b) = both-true _ _ (sym (c .before .before .is-digit .ensures) ∙ not-false _ (c .before .if2 .left)) in
+    (leb-true 48 _ a, leb-true _ 57 b)
 
 loop-holds : tie.Need-loop-holds Inv-loop μ-loop
 loop-holds c = none-counted

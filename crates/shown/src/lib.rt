@@ -1,9 +1,9 @@
 // Units as they are shown at a terminal: characters that can be seen as UTF-8, every other unit as `{hex}`.
 ghost use mathlib.Core.Path.{_≡_};
-ghost use Prim.Native.Nat.{_+_, _<_, _≤_, _^_};
+ghost use Prim.Native.Nat.{_+_, _%_, _<_, _≤_, _^_};
 ghost use Rattle.rules.specs.Unit.{within};
 ghost use Rattle.laws.specs.Placed.{Placed};
-ghost use Rattle.terminal.specs.Shown.{hidden, inRanges, startsWithPair, joined, utf8, single, shown, Clipped};
+ghost use Rattle.shown.specs.Shown.{hidden, inRanges, startsWithPair, joined, utf8, single, shown, Clipped};
 use octets::digits::put_braced;
 use octets::put_run;
 
@@ -92,32 +92,65 @@ pub fn starts_with_pair(units: &[u16]) -> bool
     false
 }
 
+// A byte behind the first: the lower six bits of a number.
+fn tail_of(number: u32) -> u8
+    ensures { λ r. ⌜ r ≡ 128 + number % 64 ⌝ }
+{
+    (128 + number % 64) as u8
+}
+
+// The bytes of a character that has two.
+fn put_two(out: &mut [u8], at: usize, value: u32) -> usize
+    requires { ⌜ (128 ≤ value) × (value < 2048) × (at + 4 < 2 ^ 64) ⌝ }
+    ensures { λ r. ⌜ Placed (utf8 value) at r (now (out .entry)) (now (out .exit)) ⌝ }
+{
+    let bytes = [(192 + value / 64) as u8, tail_of(value)];
+    put_run(out, at, &bytes)
+}
+
+// The bytes of a character that has three.
+fn put_three(out: &mut [u8], at: usize, value: u32) -> usize
+    requires { ⌜ (2048 ≤ value) × (value < 65536) × (at + 4 < 2 ^ 64) ⌝ }
+    ensures { λ r. ⌜ Placed (utf8 value) at r (now (out .entry)) (now (out .exit)) ⌝ }
+{
+    let bytes = [
+        (224 + value / 4096) as u8,
+        tail_of(value / 64),
+        tail_of(value),
+    ];
+    put_run(out, at, &bytes)
+}
+
+// The bytes of a character that has four.
+fn put_four(out: &mut [u8], at: usize, value: u32) -> usize
+    requires { ⌜ (65536 ≤ value) × (value < 4194304) × (at + 4 < 2 ^ 64) ⌝ }
+    ensures { λ r. ⌜ Placed (utf8 value) at r (now (out .entry)) (now (out .exit)) ⌝ }
+{
+    let bytes = [
+        (240 + value / 262144) as u8,
+        tail_of(value / 4096),
+        tail_of(value / 64),
+        tail_of(value),
+    ];
+    put_run(out, at, &bytes)
+}
+
 // The bytes of a character.
 fn put_utf8(out: &mut [u8], at: usize, value: u32) -> usize
     requires { ⌜ (value < 4194304) × (at + 4 < 2 ^ 64) ⌝ }
     ensures { λ r. ⌜ Placed (utf8 value) at r (now (out .entry)) (now (out .exit)) ⌝ }
 {
     if value < 128 {
-        let one = [value as u8];
-        return put_run(out, at, &one);
+        let bytes = [value as u8];
+        return put_run(out, at, &bytes);
     }
-    let last = (128 + value % 64) as u8;
     if value < 2048 {
-        let two = [(192 + value / 64) as u8, last];
-        return put_run(out, at, &two);
+        return put_two(out, at, value);
     }
-    let third = (128 + value / 64 % 64) as u8;
     if value < 65536 {
-        let three = [(224 + value / 4096) as u8, third, last];
-        return put_run(out, at, &three);
+        return put_three(out, at, value);
     }
-    let four = [
-        (240 + value / 262144) as u8,
-        (128 + value / 4096 % 64) as u8,
-        third,
-        last,
-    ];
-    put_run(out, at, &four)
+    put_four(out, at, value)
 }
 
 // A unit that has no partner.

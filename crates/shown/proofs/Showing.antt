@@ -1,24 +1,28 @@
 -- Units shown one after another. Assumes nothing.
-use Prim.Native.Nat.{ℕ, suc, _+_, _-_, _≤_, _<_}
+use Prim.Native.Nat.{ℕ, suc, _+_, _-_, _/_, _%_, _≤_, _<_}
 use native.Mathlib.Nat.{add-zero}
 use native.Mathlib.Numerals.{add-one}
 use native.Mathlib.Omega.{arith}
 use mathlib.Core.Path.{_≡_, refl, sym, _∙_}
 use mathlib.Core.Bool.{Bool, true, false}
 use mathlib.Core.List.{List, [], _∷_, _++_, append-nil}
-use lib.Dec.{ltb}
+use lib.Dec.{leb, ltb}
 use lib.ListN.{length, getD, take, drop, length-drop, drop-of-length-le}
 use lib.Seq.{sets, drop-cons, drop-drop, getD-drop}
+use borrow.Author.Tests.{leb-true, le-ltb, lt-ltb}
 use Rattle.rules.specs.Choice.{pick, either}
 use Rattle.rules.specs.Unit.{within}
-use Rattle.laws.specs.Choice.{choose}
+use Rattle.laws.specs.Choice.{both-true, choose}
 use Rattle.laws.specs.Store.{part-is, sets-out}
 use Rattle.laws.specs.Placed.{Left, Placed, less-left, same-left}
-use Rattle.terminal.specs.Shown.{hidden, inRanges, isPair, startsWithPair, joined, isHidden, utf8, single, shown, Clipped}
-use Rattle.terminal.proofs.Ranges.{both-true, in-bounds}
+use Rattle.shown.specs.Shown.{hidden, inRanges, isPair, startsWithPair, joined, isHidden, utf8, single, shown, Clipped}
 use Rattle.octets.specs.Braced.{braced, braced-short}
 
 -- ---- ranges
+
+-- what is in a range is so
+in-bounds : (least most x : ℕ) → within least most x ≡ true → (least ≤ x) × (x ≤ most)
+in-bounds least most x h = let b = both-true (leb least x) (leb x most) h in (leb-true least x (b .0), leb-true x most (b .1))
 
 -- the next range, and those behind it
 pub ranges-next : (xs : List ℕ) (i x : ℕ) → i + 1 < length xs
@@ -138,6 +142,21 @@ module _ {units before : List ℕ} where
       let e : drop i units ≡ [] = drop-of-length-le units {i = i} h in
       let l = rw e at (s .still) in
       record { counts = omega (arith, l .counts, same-left l); stores = l .stores }
+
+-- ---- the bytes of a character, by how many there are
+
+module _ (v : ℕ) where
+  pub two-bytes : 128 ≤ v → v < 2048 → utf8 v ≡ (192 + v / 64) ∷ (128 + v % 64) ∷ []
+  unfolding utf8
+  two-bytes a b = rw (le-ltb v 128 a, lt-ltb v 2048 b)
+
+  pub three-bytes : 2048 ≤ v → v < 65536 → utf8 v ≡ (224 + v / 4096) ∷ (128 + v / 64 % 64) ∷ (128 + v % 64) ∷ []
+  unfolding utf8
+  three-bytes a b = rw (le-ltb v 128 (omega arith), le-ltb v 2048 a, lt-ltb v 65536 b)
+
+  pub four-bytes : 65536 ≤ v → utf8 v ≡ (240 + v / 262144) ∷ (128 + v / 4096 % 64) ∷ (128 + v / 64 % 64) ∷ (128 + v % 64) ∷ []
+  unfolding utf8
+  four-bytes a = rw (le-ltb v 128 (omega arith), le-ltb v 2048 (omega arith), le-ltb v 65536 a)
 
 -- ---- how long pieces are
 

@@ -1,7 +1,7 @@
--- `terminal::shown::is_within` meets its contract. Assumes nothing.
+-- `shown::is_within` meets its contract. Assumes nothing.
 use borrow.Author.Tests.{le-leb, lt-leb}
-use Rattle.terminal.proofs.shown.is_within.Statement.{statement}
-use Rattle.terminal.proofs.shown.is_within.Tie as tie
+use Rattle.shown.proofs.is_within.Statement.{statement}
+use Rattle.shown.proofs.is_within.Tie as tie
 
 returns : tie.Need-returns
 returns c = rw (lt-leb _ _ (c .if1 .taken))

@@ -1,8 +1,8 @@
--- `terminal::shown::put_single` meets its contract. Assumes nothing.
+-- `shown::put_single` meets its contract. Assumes nothing.
 use borrow.Author.Needs.{needs}
-use Rattle.terminal.proofs.Showing.{escaped, seen}
-use Rattle.terminal.proofs.shown.put_single.Statement.{statement}
-use Rattle.terminal.proofs.shown.put_single.Tie as tie
+use Rattle.shown.proofs.Showing.{escaped, seen}
+use Rattle.shown.proofs.put_single.Statement.{statement}
+use Rattle.shown.proofs.put_single.Tie as tie
 
 in-ranges-requires : tie.Need-in-ranges-requires
 in-ranges-requires c κs = search needs

@@ -1,13 +1,13 @@
--- `terminal::shown::in_ranges` meets its contract. Assumes nothing.
+-- `shown::in_ranges` meets its contract. Assumes nothing.
 use borrow.Author.Needs.{needs}
 use Prim.Native.Nat.{_-_, _≤_}
 use native.Mathlib.Omega.{arith}
 use mathlib.Core.Path.{_∙_, _≡_, refl, sym}
 use lib.ListN.{drop, length}
-use Rattle.terminal.specs.Shown.{inRanges}
-use Rattle.terminal.proofs.Showing.{ranges-next, ranges-over}
-use Rattle.terminal.proofs.shown.in_ranges.Statement.{statement}
-use Rattle.terminal.proofs.shown.in_ranges.Tie as tie
+use Rattle.shown.specs.Shown.{inRanges}
+use Rattle.shown.proofs.Showing.{ranges-next, ranges-over}
+use Rattle.shown.proofs.in_ranges.Statement.{statement}
+use Rattle.shown.proofs.in_ranges.Tie as tie
 
 abbrev Inv-loop : tie.InvT-loop
 Inv-loop ranges unit i₀ i = (i ≤ length ranges) × (inRanges (drop i ranges) unit ≡ inRanges ranges unit)

@@ -1,14 +1,14 @@
--- `terminal::shown::show` meets its contract. Assumes nothing.
+-- `shown::show` meets its contract. Assumes nothing.
 use borrow.Author.Needs.{needs}
 use Prim.Native.Nat.{_-_}
 use native.Mathlib.Omega.{arith}
 use lib.ListN.{length}
 use mathlib.Core.Path.{refl}
-use Rattle.terminal.specs.Shown.{hidden}
+use Rattle.shown.specs.Shown.{hidden}
 use Rattle.laws.specs.Placed.{same-left}
-use Rattle.terminal.proofs.Showing.{Paired, Showing, all-shown, alone, few-bytes, few-single, no-room, none-shown, paired, piece-shown}
-use Rattle.terminal.proofs.shown.show.Statement.{statement}
-use Rattle.terminal.proofs.shown.show.Tie as tie
+use Rattle.shown.proofs.Showing.{Paired, Showing, all-shown, alone, few-bytes, few-single, no-room, none-shown, paired, piece-shown}
+use Rattle.shown.proofs.show.Statement.{statement}
+use Rattle.shown.proofs.show.Tie as tie
 
 abbrev Inv-loop : tie.InvT-loop
 Inv-loop units out₀ ranges i₀ to₀ out i to = Showing units out₀ out i to

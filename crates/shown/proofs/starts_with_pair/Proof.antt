@@ -1,12 +1,12 @@
--- `terminal::shown::starts_with_pair` meets its contract. Assumes nothing.
+-- `shown::starts_with_pair` meets its contract. Assumes nothing.
 use borrow.Author.Needs.{needs}
 use mathlib.Core.Path.{_∙_, _≡_, sym}
-use Rattle.terminal.proofs.Showing.{pair-is, pair-short}
+use Rattle.shown.proofs.Showing.{pair-is, pair-short}
 use lib.ListN.{getD}
-use Rattle.terminal.specs.Shown.{isPair}
+use Rattle.shown.specs.Shown.{isPair}
 use mathlib.Core.Bool.{false}
-use Rattle.terminal.proofs.shown.starts_with_pair.Statement.{statement}
-use Rattle.terminal.proofs.shown.starts_with_pair.Tie as tie
+use Rattle.shown.proofs.starts_with_pair.Statement.{statement}
+use Rattle.shown.proofs.starts_with_pair.Tie as tie
 
 returns : tie.Need-returns
 returns c = sym (pair-short (c .before .before .args .units .now) (c .if1 .taken))
