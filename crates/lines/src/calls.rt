@@ -1,39 +1,47 @@
 // The commands, one function each.
 ghost use Prim.Native.Nat.{_≤_};
 ghost use lib.ListN.{length};
-use crate::gathering::gather;
-use crate::gathering::gather_call;
-use crate::gathering::take_word;
 use crate::reading_back::read_back;
 use crate::reading_back::say_read;
-use crate::reports::say;
-use crate::reports::say_number;
-use crate::reports::say_refusal;
-use crate::reports::say_result;
-use crate::room;
 use blocks::make_envp;
 use building::has_bat_extension;
 use building::make_bat_command_line;
 use building::make_command_line;
+use console::gathering::gather;
+use console::gathering::gather_call;
+use console::gathering::take_word;
+use console::messages::block_refused;
+use console::messages::line_refused;
+use console::messages::status_refused;
+use console::reports::say;
+use console::reports::say_number;
+use console::reports::say_result;
+use console::room;
 use rules::Built;
+use rules::Filled;
 use terminal::numbers::Number;
 use terminal::numbers::number_of;
 use terminal::numbers::signed_of;
 
-// A built result: how long it is and the result itself, or the refusal. The answer is how many units it has, 0 where it is refused.
-fn say_built(what: &[u8], built: Built, out: &[u16]) -> usize
+// What was written, so many units of what was lent. The answer is how many.
+fn say_written(what: &[u8], units: usize, out: &[u16]) -> usize
+    ensures { λ r. ⌜ r ≤ length (now (out .entry)) ⌝ }
+{
+    if out.len() < units {
+        return 0;
+    }
+    say_result(what, &out[..units]);
+    units
+}
+
+// A line that was built, or why it was not. The answer is how many units it has, 0 where it is refused.
+fn say_built(built: Built, out: &[u16]) -> usize
     ensures { λ r. ⌜ r ≤ length (now (out .entry)) ⌝ }
 {
     match built {
-        Built::Line { units } => {
-            if out.len() < units {
-                return 0;
-            }
-            say_result(what, &out[..units]);
-            units
-        }
+        Built::Line { units } => say_written(b"line", units, out),
         Built::Refused(refusal) => {
-            say_refusal(refusal);
+            line_refused(refusal);
             0
         }
     }
@@ -61,7 +69,7 @@ fn write_line(text: &[u16], units: usize, records: &[u32], force: bool)
     let program = &text[..units];
     let mut out = room::out();
     let built = make_command_line(program, records, text, force, &mut out);
-    let n = say_built(b"line", built, &out);
+    let n = say_built(built, &out);
     if n == 0 {
         return;
     }
@@ -86,7 +94,7 @@ fn batch_line(text: &[u16], units: usize, records: &[u32], force: bool)
 {
     let mut out = room::out();
     let built = make_bat_command_line(&text[..units], records, text, force, &mut out);
-    say_built(b"line", built, &out);
+    say_built(built, &out);
 }
 
 // `batch`: the line that runs a script.
@@ -103,8 +111,12 @@ pub fn batch() {
 // The block of the entries that records name in a text.
 fn env_block(text: &[u16], records: &[u32]) {
     let mut out = room::out();
-    let built = make_envp(records, text, &mut out);
-    say_built(b"block", built, &out);
+    match make_envp(records, text, &mut out) {
+        Filled::Units(units) => {
+            say_written(b"block", units, &out);
+        }
+        Filled::Refused(refusal) => block_refused(refusal),
+    }
 }
 
 // `env`: the block of entries.
@@ -118,11 +130,19 @@ pub fn env() {
     }
 }
 
-// The text and the signed code of a status.
-fn say_status(number: u32) {
+// The text of a status.
+fn say_status_text(number: u32) {
     let mut out = [0u16; 32];
-    let built = status::status_text(number, &mut out);
-    say_built(b"text", built, &out);
+    match status::status_text(number, &mut out) {
+        Filled::Units(units) => {
+            say_written(b"text", units, &out);
+        }
+        Filled::Refused(refusal) => status_refused(refusal),
+    }
+}
+
+// The signed code of a status.
+fn say_signed_code(number: u32) {
     let signed = signed_of(status::code(number));
     say(b"signed code: ");
     if signed.negative {
@@ -141,8 +161,20 @@ pub fn status() {
     let mut word = room::word();
     let n = os::arg(2, &mut word);
     match number_of(&word[..n]) {
-        Number::Is(number) => say_status(number),
+        Number::Is(number) => {
+            say_status_text(number);
+            say_signed_code(number);
+        }
         Number::Not => say(b"error: a status is a decimal number from 0 to 4294967295\n"),
+    }
+}
+
+// Whether a path has the suffix of a batch script, in words.
+fn say_suffix(batch: bool) {
+    if batch {
+        say(b"yes, the path ends in .bat or .cmd: start it with a batch line\n");
+    } else {
+        say(b"no, the path ends neither in .bat nor in .cmd\n");
     }
 }
 
@@ -158,9 +190,5 @@ pub fn suffix() {
     if !took.fine {
         return;
     }
-    if has_bat_extension(&text[..units]) {
-        say(b"yes, the path ends in .bat or .cmd: start it with a batch line\n");
-    } else {
-        say(b"no, the path ends neither in .bat nor in .cmd\n");
-    }
+    say_suffix(has_bat_extension(&text[..units]));
 }

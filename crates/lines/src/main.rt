@@ -1,11 +1,10 @@
 // A tool for a person at a terminal: command lines, batch lines and environment blocks for Windows processes, written and read.
 mod calls;
-mod gathering;
 mod reading_back;
-mod reports;
-mod room;
 
-use reports::say;
+use console::reports;
+use console::reports::say;
+use console::room;
 use terminal::words::Command;
 use terminal::words::command_of;
 

@@ -1,13 +1,13 @@
 // Arguments as they are read from a line, and whether they are those that were given.
-use crate::reports::say;
-use crate::reports::say_argument;
-use crate::reports::say_number;
-use crate::reports::say_refusal;
-use crate::room;
+use console::messages::line_unread;
+use console::reports::say;
+use console::reports::say_argument;
+use console::reports::say_number;
+use console::room;
 use reading::argument;
 use reading::parse_lp_cmd_line;
 use rules::Parsed;
-use terminal::words::same_units;
+use units::comparing::same_units;
 use units::scans::has_quote;
 
 // Each argument on a line of its own.
@@ -67,7 +67,24 @@ pub fn say_read(line: &[u16], name: &[u16]) {
     let mut spans = room::spans();
     match parse_lp_cmd_line(line, name, &mut back, &mut spans) {
         Parsed::Arguments { count, units: _ } => say_arguments(&back, &spans, count),
-        Parsed::Refused(refusal) => say_refusal(refusal),
+        Parsed::Refused(refusal) => line_unread(refusal),
+    }
+}
+
+// The arguments read, and whether they are those given.
+fn compare(
+    count: usize,
+    program: &[u16],
+    table: &[u32],
+    text: &[u16],
+    back: &[u16],
+    spans: &[u32],
+) {
+    say_arguments(back, spans, count);
+    let other = first_other(count, program, table, text, back, spans);
+    say_verdict(other, count, table.len() / 3 + 1);
+    if has_quote(program) {
+        say(b"a quote in the program is written as it is, and whoever reads the line drops it\n");
     }
 }
 
@@ -76,17 +93,20 @@ pub fn read_back(line: &[u16], program: &[u16], table: &[u32], text: &[u16]) {
     let mut back = room::back();
     let mut spans = room::spans();
     match parse_lp_cmd_line(line, program, &mut back, &mut spans) {
-        Parsed::Arguments { count, units: _ } => {
-            say_arguments(&back, &spans, count);
-            let other = first_other(count, program, table, text, &back, &spans);
-            say_verdict(other, count, table.len() / 3 + 1, has_quote(program));
-        }
-        Parsed::Refused(refusal) => say_refusal(refusal),
+        Parsed::Arguments { count, units: _ } => compare(
+            count,
+            program,
+            table,
+            text,
+            &back,
+            &spans,
+        ),
+        Parsed::Refused(refusal) => line_unread(refusal),
     }
 }
 
 // Whether the arguments read are those given.
-fn say_verdict(other: usize, count: usize, given: usize, quote: bool) {
+fn say_verdict(other: usize, count: usize, given: usize) {
     if other < count {
         say(b"argument ");
         say_number(other);
@@ -95,8 +115,5 @@ fn say_verdict(other: usize, count: usize, given: usize, quote: bool) {
         say(b"each is the one given\n");
     } else {
         say(b"there are not as many as were given\n");
-    }
-    if quote {
-        say(b"a quote in the program is written as it is, and whoever reads the line drops it\n");
     }
 }

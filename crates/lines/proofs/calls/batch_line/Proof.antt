@@ -20,9 +20,6 @@ make-bat-command-line-requires c κs = search needs
 slice-aggregate-say-built : tie.Need-slice-aggregate-say-built
 slice-aggregate-say-built c = search needs
 
-slice-aggregate-say-built-2 : tie.Need-slice-aggregate-say-built-2
-slice-aggregate-say-built-2 c = search needs
-
 say-built-requires : tie.Need-say-built-requires
 say-built-requires c κs = search needs
 
@@ -38,6 +35,5 @@ batch-line-spec =
     slice-aggregate-make-bat-command-line-2
     make-bat-command-line-requires
     slice-aggregate-say-built
-    slice-aggregate-say-built-2
     say-built-requires
     returns)

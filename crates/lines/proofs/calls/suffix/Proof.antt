@@ -34,28 +34,18 @@ array-share-prefix-text : tie.Need-array-share-prefix-text
 array-share-prefix-text c = search needs
 
 slice-aggregate-has-bat-extension : tie.Need-slice-aggregate-has-bat-extension
-slice-aggregate-has-bat-extension c = sym (length-take-le _ (c .before .before .before .before .take-word .last .1 .0) (omega (arith, c .before .before .before .before .take-word)))
+slice-aggregate-has-bat-extension c =
+    let took = c .before .before .before .before .take-word in
+    sym (length-take-le _ (took .last .1 .0) (omega (arith, took)))
 
 has-bat-extension-requires : tie.Need-has-bat-extension-requires
 has-bat-extension-requires c κs = search needs
 
-slice-aggregate-say-2 : tie.Need-slice-aggregate-say-2
-slice-aggregate-say-2 c = search needs
-
-say-requires-2 : tie.Need-say-requires-2
-say-requires-2 c κs = search needs
-
-slice-aggregate-say-3 : tie.Need-slice-aggregate-say-3
-slice-aggregate-say-3 c = search needs
-
-say-requires-3 : tie.Need-say-requires-3
-say-requires-3 c κs = search needs
+say-suffix-requires : tie.Need-say-suffix-requires
+say-suffix-requires c κs = search needs
 
 returns-3 : tie.Need-returns-3
 returns-3 c = search needs
-
-returns-4 : tie.Need-returns-4
-returns-4 c = search needs
 
 pub suffix-spec : {M : Type 1} → statement M
 suffix-spec =
@@ -72,9 +62,5 @@ suffix-spec =
     array-share-prefix-text
     slice-aggregate-has-bat-extension
     has-bat-extension-requires
-    slice-aggregate-say-2
-    say-requires-2
-    slice-aggregate-say-3
-    say-requires-3
-    returns-3
-    returns-4)
+    say-suffix-requires
+    returns-3)

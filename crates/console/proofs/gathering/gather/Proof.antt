@@ -1,11 +1,11 @@
--- `lines::gathering::gather` meets its contract. Assumes nothing.
+-- `console::gathering::gather` meets its contract. Assumes nothing.
 use borrow.Author.Needs.{needs}
 use Prim.Native.Nat.{_-_}
 use mathlib.Core.Path.{refl}
 use native.Mathlib.Omega.{arith}
-use Rattle.lines.proofs.Kept.{Spotted, spotted-more}
-use Rattle.lines.proofs.gathering.gather.Statement.{statement}
-use Rattle.lines.proofs.gathering.gather.Tie as tie
+use Rattle.console.proofs.Kept.{Spotted, spotted-more}
+use Rattle.console.proofs.gathering.gather.Statement.{statement}
+use Rattle.console.proofs.gathering.gather.Tie as tie
 
 abbrev Inv-loop : tie.InvT-loop
 Inv-loop entries from start text₀ table₀ spot₀ count index₀ text table spot index = Spotted text₀ table₀ text table (spot .at) (spot .numbers)

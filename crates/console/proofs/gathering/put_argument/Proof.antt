@@ -1,10 +1,10 @@
--- `lines::gathering::put_argument` meets its contract. Assumes nothing.
+-- `console::gathering::put_argument` meets its contract. Assumes nothing.
 use borrow.Author.Needs.{needs}
 use native.Mathlib.Omega.{arith}
 use borrow.Author.Tests.{not-false}
 use Rattle.terminal.specs.Word.{spanned-in}
-use Rattle.lines.proofs.gathering.put_argument.Statement.{statement}
-use Rattle.lines.proofs.gathering.put_argument.Tie as tie
+use Rattle.console.proofs.gathering.put_argument.Statement.{statement}
+use Rattle.console.proofs.gathering.put_argument.Tie as tie
 
 put-number-requires : tie.Need-put-number-requires
 put-number-requires c κs = search needs
@@ -15,11 +15,8 @@ add-put-span c = search needs
 put-span-requires : tie.Need-put-span-requires
 put-span-requires c κs = search needs
 
-slice-aggregate-say-error : tie.Need-slice-aggregate-say-error
-slice-aggregate-say-error c = search needs
-
-say-error-requires : tie.Need-say-error-requires
-say-error-requires c κs = search needs
+no-room-requires : tie.Need-no-room-requires
+no-room-requires c κs = search needs
 
 same-length : tie.Need-same-length
 same-length c = search needs
@@ -47,8 +44,7 @@ put-argument-spec =
     put-number-requires
     add-put-span
     put-span-requires
-    slice-aggregate-say-error
-    say-error-requires
+    no-room-requires
     same-length
     returns
     add-result

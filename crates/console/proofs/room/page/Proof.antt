@@ -1,9 +1,9 @@
--- `lines::room::page` meets its contract. Assumes nothing.
+-- `console::room::page` meets its contract. Assumes nothing.
 use Prim.Native.Nat.{ℕ}
 use mathlib.Core.Path.{sym}
 use lib.ListN.{length-replicate}
-use Rattle.lines.proofs.room.page.Statement.{statement}
-use Rattle.lines.proofs.room.page.Tie as tie
+use Rattle.console.proofs.room.page.Statement.{statement}
+use Rattle.console.proofs.room.page.Tie as tie
 
 returns : tie.Need-returns
 returns c = sym (length-replicate {A = ℕ} 420000 0)

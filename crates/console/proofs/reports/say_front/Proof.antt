@@ -1,9 +1,9 @@
--- `lines::reports::say_front` meets its contract. Assumes nothing.
+-- `console::reports::say_front` meets its contract. Assumes nothing.
 use borrow.Author.Needs.{needs}
 use mathlib.Core.Path.{sym}
 use lib.Seq.{length-take-le}
-use Rattle.lines.proofs.reports.say_front.Statement.{statement}
-use Rattle.lines.proofs.reports.say_front.Tie as tie
+use Rattle.console.proofs.reports.say_front.Statement.{statement}
+use Rattle.console.proofs.reports.say_front.Tie as tie
 
 slice-aggregate-say : tie.Need-slice-aggregate-say
 slice-aggregate-say c = search needs

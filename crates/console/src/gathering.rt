@@ -1,8 +1,10 @@
 // The words of the call, taken from UTF-8 into one text, with a record for each.
 ghost use mathlib.Core.Path.{_≡_};
-ghost use Prim.Native.Nat.{_+_, _≤_};
+ghost use Prim.Native.Nat.{_+_, _<_, _≤_, _^_};
+ghost use mathlib.Core.Bool.{true};
 ghost use lib.ListN.{length};
 use crate::reports::no_entry;
+use crate::reports::no_room;
 use crate::reports::no_utf8;
 use crate::reports::say;
 use crate::reports::say_error;
@@ -55,6 +57,25 @@ fn took_none() -> Took
     }
 }
 
+// The units of a word into the text, from a place on.
+fn take_bytes(index: usize, word: &[u8], text: &mut [u16], at: usize) -> Took
+    requires { ⌜ at ≤ length (now text) ⌝ }
+    ensures { λ r. ⌜ at + r .units ≤ length (now (text .entry)) ⌝ }
+{
+    let taken = decode(word, &mut text[at..]);
+    let units = taken.units;
+    if text.len() - at < units {
+        no_room(index);
+        return took_none();
+    }
+    if taken.bytes < word.len() {
+        let end = at + units;
+        no_utf8(index, &text[at..end], taken.bytes);
+        return took_none();
+    }
+    Took { fine: true, units }
+}
+
 // A word of the call into the text, from a place on. It is read to an array of its own, which has room for the longest word that Linux hands over.
 pub fn take_word(index: usize, text: &mut [u16], at: usize) -> Took
     requires { ⌜ at ≤ length (now text) ⌝ }
@@ -63,25 +84,10 @@ pub fn take_word(index: usize, text: &mut [u16], at: usize) -> Took
     let mut word = room::word();
     let n = os::arg(index, &mut word);
     if os::errno() != 0 {
-        say_error(index, b" has more than 131,072 bytes\n");
+        say_error(index, b" has more bytes than Linux hands over\n");
         return took_none();
     }
-    let taken = decode(&word[..n], &mut text[at..]);
-    let units = taken.units;
-    let bytes = taken.bytes;
-    if text.len() - at < units {
-        say_error(
-            index,
-            b" is too much: there is room for 70,000 units, and a line has at most 32,767, a block 65,535\n",
-        );
-        return took_none();
-    }
-    if bytes < n {
-        let end = at + units;
-        no_utf8(index, &text[at..end], bytes);
-        return took_none();
-    }
-    Took { fine: true, units }
+    take_bytes(index, &word[..n], text, at)
 }
 
 // Where the next word and its record come. No record has its end at 0, so 0 numbers say that the word is not gathered.
@@ -102,13 +108,21 @@ fn put_argument(index: usize, at: usize, units: usize, table: &mut [u32], number
 {
     put_number(table, numbers, 0);
     if !put_span(table, numbers + 1, at, units) {
-        say_error(
-            index,
-            b" is too much: there are places for 30,000 arguments or 22,500 entries\n",
-        );
+        no_room(index);
         return 0;
     }
     numbers + 3
+}
+
+// Start and length of an entry's key and of its value, behind the `=`, if they have a place in the table.
+fn put_key_and_value(at: usize, key: usize, units: usize, table: &mut [u32], numbers: usize) -> bool
+    requires { ⌜ (key < units) × (at + units < 2 ^ 63) × (numbers ≤ length (now table)) ⌝ }
+    ensures { λ r. ⌜ (r ≡ true → numbers + 4 ≤ length (now (table .entry))) ⌝ }
+{
+    if !put_span(table, numbers, at, key) {
+        return false;
+    }
+    put_span(table, numbers + 2, at + key + 1, units - key - 1)
 }
 
 // The record of a word in the text as an entry: start and length of key and value. The answer is its end, or 0 where the word is no entry or
@@ -125,23 +139,14 @@ fn put_entry(
     ensures { λ r. ⌜ r ≤ length (now (table .entry)) ⌝ }
 {
     let end = at + units;
-    let key = key_length(&text[at..end]);
+    let word = &text[at..end];
+    let key = key_length(word);
     if units <= key {
-        no_entry(index, &text[at..end]);
+        no_entry(index, word);
         return 0;
     }
-    if !put_span(table, numbers, at, key) {
-        say_error(
-            index,
-            b" is too much: there are places for 30,000 arguments or 22,500 entries\n",
-        );
-        return 0;
-    }
-    if !put_span(table, numbers + 2, at + key + 1, units - key - 1) {
-        say_error(
-            index,
-            b" is too much: there are places for 30,000 arguments or 22,500 entries\n",
-        );
+    if !put_key_and_value(at, key, units, table, numbers) {
+        no_room(index);
         return 0;
     }
     numbers + 4

@@ -1,12 +1,7 @@
 // What is written to standard output. A call that fails writes `error` or `refused` first.
 use crate::room;
 use libc::STDOUT_FILENO;
-use rules::Refusal;
-use terminal::messages::put_advice;
-use terminal::messages::put_name;
-use terminal::shown::show;
-use units::refusals::number_of;
-use units::refusals::place_of;
+use shown::show;
 
 // Bytes as they are.
 pub fn say(bytes: &[u8]) {
@@ -37,7 +32,7 @@ fn say_front(page: &[u8], count: usize) {
     say(&page[..count]);
 }
 
-// Units as they are shown, at most 420,000 bytes: room for the units of the longest block, six bytes each.
+// Units as they are shown, on the page that has room for the longest block.
 fn say_long(units: &[u16]) {
     let mut page = room::page();
     let count = show(units, &mut page);
@@ -76,27 +71,19 @@ pub fn say_argument(index: usize, units: &[u16]) {
     say(b"]\n");
 }
 
-// A refusal: its number, its name, its place, and what to do.
-pub fn say_refusal(refusal: Refusal) {
-    say(b"refused ");
-    say_number(number_of(refusal) as usize);
-    say(b", ");
-    let mut page = [0u8; 200];
-    let name = put_name(&mut page, refusal);
-    say_front(&page, name);
-    say(b", place ");
-    say_number(place_of(refusal));
-    say(b"\n");
-    let advice = put_advice(&mut page, refusal);
-    say_front(&page, advice);
-    say(b"\n");
-}
-
 // What is wrong with a word of the call, counted from the command on.
 pub fn say_error(index: usize, what: &[u8]) {
     say(b"error: word ");
     say_number(index);
     say(what);
+}
+
+// A word for which there is no room. The tool has room for more than the longest line or block.
+pub fn no_room(index: usize) {
+    say_error(
+        index,
+        b" is too much: the words together are more than any line or block may hold\n",
+    );
 }
 
 // A word that is no UTF-8: what is read of it, and how many bytes that is.

@@ -1,5 +1,6 @@
-// The arrays that the tool works on. What a call can hold has room: a line has at most 32,767 units, a block at most 65,535, and no word that
-// Linux hands over has more than 131,072 bytes. Each array is made here alone, so that whoever lends it need not count it again.
+// The arrays that the tool works on. Each has room for whatever a call can hold: 40,000 units are more than a line may have (`lineLimit` and `readLimit` in
+// `rules`), 70,000 more than a block may (`blockLimit`), and no word that Linux hands over has more than 131,072 bytes. Each array is made here alone, so that
+// whoever lends it need not count it again.
 ghost use mathlib.Core.Path.{_≡_};
 ghost use lib.ListN.{length};
 
