@@ -1,4 +1,6 @@
 // The kinds of example: each runs an entry point on small lent memory and compares what comes out with what is stated.
+ghost use Prim.Native.Nat.{_≤_};
+ghost use lib.ListN.{length};
 use super::pages::compare;
 use super::pages::put;
 use super::pages::put_units;
@@ -9,6 +11,20 @@ use rules::Parsed;
 use units::refusals::number_of;
 use units::refusals::place_of;
 
+// The arguments that were read, each with a line feed behind it, on a page. The answer is how many bytes they have.
+fn put_arguments(page: &mut [u8], text: &[u16], spans: &[u32], count: usize) -> usize
+    ensures { λ r. ⌜ r ≤ length (now (page .exit)) ⌝ }
+{
+    let mut to = 0;
+    let mut i = 0;
+    while i < count {
+        to = put_units(page, to, reading::argument(text, spans, i));
+        to = put(page, to, 10);
+        i += 1;
+    }
+    to
+}
+
 // A line is read as these arguments, each with a line feed behind it.
 pub fn reads(line: &[u8], stated: &[u8]) {
     let mut units = [0u16; 64];
@@ -17,23 +33,13 @@ pub fn reads(line: &[u8], stated: &[u8]) {
     let mut page = [0u8; 128];
     let from = 0;
     let n = widen(line, &mut units);
-    let Parsed::Arguments { count, units: _ } = reading::parse_lp_cmd_line(
-        &units[from..n],
-        &[],
-        &mut text,
-        &mut spans,
-    ) else {
-        verdict(b"read ", line, false);
-        return;
-    };
-    let mut to = 0;
-    let mut i = 0;
-    while i < count {
-        to = put_units(&mut page, to, reading::argument(&text, &spans, i));
-        to = put(&mut page, to, 10);
-        i += 1;
+    match reading::parse_lp_cmd_line(&units[from..n], &[], &mut text, &mut spans) {
+        Parsed::Arguments { count, units: _ } => {
+            let to = put_arguments(&mut page, &text, &spans, count);
+            compare(b"read ", line, &page[from..to], stated);
+        }
+        Parsed::Refused(_) => verdict(b"read ", line, false),
     }
-    compare(b"read ", line, &page[from..to], stated);
 }
 
 // What a builder wrote, or nothing where it refused.
@@ -80,25 +86,26 @@ fn small(n: usize) -> u32 {
     (n % 4294967296) as u32
 }
 
-// Script `a.bat` and one regular argument are written as this batch line.
-pub fn batches(arg: &[u8], stated: &[u8]) {
+// The batch line of script `a.bat` and one regular argument.
+fn batch_line(arg: &[u8], out: &mut [u16]) -> Built {
     let script = [97u16, 46, 98, 97, 116];
     let mut text = [0u16; 32];
-    let mut out = [0u16; 96];
     let n = widen(arg, &mut text);
     let records = [0u32, 0, small(n)];
-    let built = building::make_bat_command_line(&script, &records, &text, false, &mut out);
+    building::make_bat_command_line(&script, &records, &text, false, out)
+}
+
+// Script `a.bat` and one regular argument are written as this batch line.
+pub fn batches(arg: &[u8], stated: &[u8]) {
+    let mut out = [0u16; 96];
+    let built = batch_line(arg, &mut out);
     written(b"batch ", arg, &out, line_of(built), stated);
 }
 
 // One regular argument of a batch line is refused by this number at this place.
 pub fn batch_refused(arg: &[u8], number: u32, place: usize) {
-    let script = [97u16, 46, 98, 97, 116];
-    let mut text = [0u16; 32];
     let mut out = [0u16; 96];
-    let n = widen(arg, &mut text);
-    let records = [0u32, 0, small(n)];
-    let built = building::make_bat_command_line(&script, &records, &text, false, &mut out);
+    let built = batch_line(arg, &mut out);
     verdict(
         b"batch ",
         b"NUL, CR is refused by 6, place 1",
@@ -106,8 +113,19 @@ pub fn batch_refused(arg: &[u8], number: u32, place: usize) {
     );
 }
 
+// What was read has so many units, or is refused by this number; 0 where it is read.
+fn is_read(parsed: Parsed, units: usize, number: u32) -> bool {
+    match parsed {
+        Parsed::Arguments {
+            count: _,
+            units: got,
+        } => (number == 0) & (got == units),
+        Parsed::Refused(refusal) => number_of(refusal) == number,
+    }
+}
+
 // A line of so many units is read, or refused by this number.
-pub fn limit(units: usize, number: u32) {
+pub fn limit(units: usize, number: u32, name: &[u8]) {
     let line = [97u16; 32768];
     let mut text = [0u16; 32768];
     let mut spans = [0u32; 4];
@@ -115,18 +133,8 @@ pub fn limit(units: usize, number: u32) {
     if line.len() < units {
         return;
     }
-    let holds = match reading::parse_lp_cmd_line(&line[from..units], &[], &mut text, &mut spans) {
-        Parsed::Arguments {
-            count: _,
-            units: got,
-        } => (number == 0) & (got == units),
-        Parsed::Refused(refusal) => number_of(refusal) == number,
-    };
-    if number == 0 {
-        verdict(b"read ", b"a line of 32,767 units", holds);
-    } else {
-        verdict(b"read ", b"a line of 32,768 units is refused by 2", holds);
-    }
+    let parsed = reading::parse_lp_cmd_line(&line[from..units], &[], &mut text, &mut spans);
+    verdict(b"read ", name, is_read(parsed, units, number));
 }
 
 // Four quotes, forced, take 10 units: a line of program `p` then has 14.
