@@ -11,7 +11,7 @@ use Rattle.rules.specs.declared.Refusal.{Refusal}
 use Rattle.rules.specs.declared.Refusal.the-variants as Refusal
 use Rattle.rules.specs.declared.Built.{Built}
 use Rattle.rules.specs.declared.Built.the-variants as Built
-use Rattle.rules.specs.Answer.{numberOf, placeOf}
+use Rattle.rules.specs.Answer.{refusalNumber, refusalPlace}
 use Rattle.rules.specs.Choice.{pick, both, any}
 use Rattle.rules.specs.Unit.{isNul}
 use Rattle.rules.specs.Building.{isNoScript}
@@ -40,7 +40,7 @@ entered w pass units = record { count = w .count; units = units; at = 0; place =
 
 -- refused
 abbrev pub stopped : Work → Refusal → Work
-stopped w r = record { count = w .count; units = w .units; at = w .at; place = placeOf r; number = numberOf r; style = w .style; pass = w .pass; going = false }
+stopped w r = record { count = w .count; units = w .units; at = w .at; place = refusalPlace r; number = refusalNumber r; style = w .style; pass = w .pass; going = false }
 
 -- a line of so many units
 abbrev pub finished : Work → ℕ → Work

@@ -14,7 +14,7 @@ use Rattle.rules.specs.declared.Parsed.{Parsed}
 use Rattle.rules.specs.declared.Parsed.the-variants as Parsed
 use Rattle.rules.specs.Choice.{pick}
 use Rattle.rules.specs.Outcome.{Outcome}
-use Rattle.rules.specs.Answer.{Said, numberOf, placeOf, refusalSaid, builtSaid, filledSaid, parsedSaid, Answered, Read}
+use Rattle.rules.specs.Answer.{Said, refusalNumber, refusalPlace, refusalSaid, builtSaid, filledSaid, parsedSaid, Answered, Read}
 
 -- ---- back from what is said to the answer
 
@@ -28,7 +28,7 @@ refusalOf number place =
     (pick (eqb number 5) (Refusal.Nul place) (pick (eqb number 6) (Refusal.LineBreak place) Refusal.Script)))))
 
 -- every refusal is that of its number and its place
-pub refusal-back : (r : Refusal) → refusalOf (numberOf r) (placeOf r) ≡ r
+pub refusal-back : (r : Refusal) → refusalOf (refusalNumber r) (refusalPlace r) ≡ r
 unfolding refusalOf
 refusal-back (Refusal.Record place) = refl
 refusal-back Refusal.Length = refl
@@ -51,7 +51,7 @@ unfoldable parsedOf : Said → Parsed
 parsedOf s = pick (eqb (s .number) 0) (Parsed.Arguments (s .arguments) (s .units)) (Parsed.Refused (refusalOf (s .number) (s .place)))
 
 -- a refusal's number is not 0
-pub some-number : (r : Refusal) → eqb (numberOf r) 0 ≡ false
+pub some-number : (r : Refusal) → eqb (refusalNumber r) 0 ≡ false
 some-number (Refusal.Record place) = refl
 some-number Refusal.Length = refl
 some-number Refusal.Places = refl

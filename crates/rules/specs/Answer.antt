@@ -48,28 +48,28 @@ argumentsSaid (refused number place) = refusal number place
 -- ---- what an answer says: the one place where the enums' cases get the document's numbers
 
 -- the number of each refusal
-abbrev pub numberOf : Refusal → ℕ
-numberOf (Refusal.Record place) = 1
-numberOf Refusal.Length = 2
-numberOf Refusal.Places = 3
-numberOf Refusal.Room = 4
-numberOf (Refusal.Nul place) = 5
-numberOf (Refusal.LineBreak place) = 6
-numberOf Refusal.Script = 7
+abbrev pub refusalNumber : Refusal → ℕ
+refusalNumber (Refusal.Record place) = 1
+refusalNumber Refusal.Length = 2
+refusalNumber Refusal.Places = 3
+refusalNumber Refusal.Room = 4
+refusalNumber (Refusal.Nul place) = 5
+refusalNumber (Refusal.LineBreak place) = 6
+refusalNumber Refusal.Script = 7
 
 -- its place: that of a record, else 0
-abbrev pub placeOf : Refusal → ℕ
-placeOf (Refusal.Record place) = place
-placeOf Refusal.Length = 0
-placeOf Refusal.Places = 0
-placeOf Refusal.Room = 0
-placeOf (Refusal.Nul place) = place
-placeOf (Refusal.LineBreak place) = place
-placeOf Refusal.Script = 0
+abbrev pub refusalPlace : Refusal → ℕ
+refusalPlace (Refusal.Record place) = place
+refusalPlace Refusal.Length = 0
+refusalPlace Refusal.Places = 0
+refusalPlace Refusal.Room = 0
+refusalPlace (Refusal.Nul place) = place
+refusalPlace (Refusal.LineBreak place) = place
+refusalPlace Refusal.Script = 0
 
 -- a refusal says its number and its place
 abbrev pub refusalSaid : Refusal → Said
-refusalSaid r = refusal (numberOf r) (placeOf r)
+refusalSaid r = refusal (refusalNumber r) (refusalPlace r)
 
 -- the answer of a builder of lines
 abbrev pub builtSaid : Built → Said

@@ -1,12 +1,12 @@
 // A refusal's number and place: the one place in code where the names become the document's numbers.
 ghost use mathlib.Core.Path.{_≡_};
-ghost use Rattle.rules.specs.Answer.{numberOf, placeOf};
+ghost use Rattle.rules.specs.Answer.{refusalNumber, refusalPlace};
 ghost use Rattle.laws.specs.Answer.{refusalOf};
 use rules::Refusal;
 
 // The refusal's number.
 pub fn number_of(r: Refusal) -> u32
-    ensures { λ n. ⌜ n ≡ numberOf r ⌝ }
+    ensures { λ n. ⌜ n ≡ refusalNumber r ⌝ }
 {
     match r {
         Refusal::Record(_) => 1,
@@ -21,7 +21,7 @@ pub fn number_of(r: Refusal) -> u32
 
 // The refusal's place: the index of the record at fault plus 1, else 0.
 pub fn place_of(r: Refusal) -> usize
-    ensures { λ n. ⌜ n ≡ placeOf r ⌝ }
+    ensures { λ n. ⌜ n ≡ refusalPlace r ⌝ }
 {
     match r {
         Refusal::Record(place) => place,
