@@ -20,29 +20,14 @@ VARIANTS = [
      [('        count += 1;\n', '        if 0 < units {\n            count += 1;\n        } else if i + took.used < line.len() {\n            count += 1;\n        }\n')]),
     ('argument 0 read with the backslash rule', 'reading/src/laying.rt', [('let first = read_first(line, text);', 'let first = read_later(line, text);')]),
     ('all backslashes doubled', 'quoting/src/escapes.rt',
-     [('        let k = scans::last_backslashes(run);\n        stores::copy_run(out, to, run);\n        to += n;\n', '        let k = 0;\n        to = put_doubled(out, to, run);\n'),
-      ('// The units of an argument, without', '''fn put_doubled(out: &mut [u16], at: usize, run: &[u16]) -> usize {
-    let mut to = at;
-    let mut i = 0;
-    while i < run.len() {
-        if run[i] == 92 {
-            stores::put(out, to, 92);
-            to += 1;
-        }
-        stores::put(out, to, run[i]);
-        to += 1;
-        i += 1;
-    }
-    to
-}
-
-// The units of an argument, without''')]),
-    ('a quote mark of a batch argument escaped with a backslash', 'quoting/src/escapes.rt', [('put_quotes(out, at, k, 2)', 'put_quotes(out, at, k + 1, 1)')]),
+     [('    stores::put(out, spot.to, unit);\n',
+       '    if unit == 92 {\n        stores::put(out, spot.to, 92);\n        stores::put(out, spot.to + 1, 92);\n        return Spot { to: spot.to + 2, k: 0 };\n    }\n'
+       '    stores::put(out, spot.to, unit);\n')]),
+    ('a quote mark of a batch argument escaped with a backslash', 'quoting/src/escapes.rt', [('if batch { 34 } else { 92 }', 'if batch { 92 } else { 92 }')]),
     ('NUL tested before CR in a batch argument', 'building/src/judging.rt',
-     [('    if breaks_line(batch', '    if scans::has_nul(content) {\n        return Built::Refused(Refusal::Nul(place));\n    }\n    if breaks_line(batch')]),
-    ('units written before a later argument is refused', 'building/src/passes.rt',
-     [('        Pass::Units(batch) => judging::judge_units(batch, text, units, place, arg),\n',
-       '        Pass::Units(batch) => {\n            writing::add_argument(classes, out, units, text, arg, batch, false);\n            judging::judge_units(batch, text, units, place, arg)\n        }\n')]),
+     [('    if breaks {\n', '    if nul {\n        return Progress::Stopped(Refusal::Nul(place));\n    }\n    if breaks {\n')]),
+    ('units written before a later argument is refused', 'building/src/turns.rt',
+     [('            let judged =', '            let early = writing::add_argument(classes, out, units, text, arg, style);\n            let judged =')]),
 ]
 
 

@@ -149,7 +149,7 @@ impl Iterator for WStrUnits<'_> {
     }
 }
 
-/// A key of an environment. Its order in the Rust is not in the text given, so keys keep the order in which they were made.
+/// A key of an environment. In the Rust its order asks Windows, so here keys keep the order in which they were made.
 #[derive(Debug, Clone)]
 pub struct EnvKey {
     pub os_string: OsString,
