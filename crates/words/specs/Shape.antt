@@ -16,7 +16,7 @@ use Rattle.words.specs.declared.shapes.Shape.the-variants as Shape
 abbrev pub most32 : ℕ
 most32 = 4294967295
 
--- `f` is a flag, 0 or 1; `n` a number of 32 bits; `w` one of 64 bits; `t` a text; `a` an argument `K:TEXT`; `e` an entry `KEY:VALUE`, in which a colon is `{3a}`
+-- `f` is a flag, 0 or 1; `n` a number of 32 bits; `w` one of 64; `t` a text; `a` an argument `K:TEXT`; `e` an entry `KEY:VALUE`, whose colons are `{3a}`
 abbrev pub shapeOf : ℕ → Shape
 shapeOf letter =
     pick (eqb letter 102) (Shape.One (Field.Count 1))
