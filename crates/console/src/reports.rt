@@ -14,7 +14,7 @@ pub fn say_number(number: usize) {
 }
 
 // How many units there are.
-pub fn say_units(count: usize) {
+fn say_units(count: usize) {
     say_number(count);
     if count == 1 {
         say(b" unit");
@@ -40,7 +40,7 @@ fn say_long(units: &[u16]) {
 }
 
 // Units as they are shown. Most texts are short, and a small page is made sooner than a large one.
-pub fn say_text(units: &[u16]) {
+fn say_text(units: &[u16]) {
     if 600 < units.len() {
         say_long(units);
         return;

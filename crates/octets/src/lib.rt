@@ -6,7 +6,7 @@ ghost use lib.ListN.{length, set};
 ghost use lib.Seq.{sets};
 ghost use Rattle.laws.specs.Scan.{before};
 ghost use Rattle.laws.specs.Equal.{equal};
-ghost use Rattle.laws.specs.Placed.{Appended, Placed};
+ghost use Rattle.laws.specs.Placed.{Placed};
 
 pub mod digits;
 
@@ -61,13 +61,6 @@ pub fn put_run(out: &mut [u8], at: usize, run: &[u8]) -> usize
         i += 1;
     }
     at + i
-}
-
-// A run of bytes at the front.
-pub fn put_text(out: &mut [u8], text: &[u8]) -> usize
-    ensures { λ r. ⌜ Appended (now (text .entry)) r (now (out .entry)) (now (out .exit)) ⌝ }
-{
-    put_run(out, 0, text)
 }
 
 // A byte as a unit.

@@ -28,7 +28,7 @@ pub struct Saying {
 }
 
 // Why there is no result.
-pub fn of_refusal(r: Refusal) -> Saying
+fn of_refusal(r: Refusal) -> Saying
     ensures { λ s. ⌜ saidIn s ≡ refusalSaid r ⌝ }
 {
     Saying {

@@ -66,7 +66,7 @@ fn is_within(least: u16, most: u16, unit: u16) -> bool
 }
 
 // Whether a unit is in one of the ranges.
-pub fn in_ranges(ranges: &[u16], unit: u16) -> bool
+fn in_ranges(ranges: &[u16], unit: u16) -> bool
     ensures { λ r. ⌜ r ≡ inRanges (now (ranges .entry)) unit ⌝ }
 {
     let mut i = 0;
@@ -80,7 +80,7 @@ pub fn in_ranges(ranges: &[u16], unit: u16) -> bool
 }
 
 // Whether units begin with a high and a low surrogate whose character can be seen.
-pub fn starts_with_pair(units: &[u16]) -> bool
+fn starts_with_pair(units: &[u16]) -> bool
     ensures { λ r. ⌜ r ≡ startsWithPair (now (units .entry)) ⌝ }
 {
     if units.len() < 2 {

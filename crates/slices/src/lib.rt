@@ -64,7 +64,7 @@ pub fn make_bat_command_line_of(
     make_line_of(true, script, args, text, force_quotes, out)
 }
 
-// Four records by value, lent to `make_command_line_of` as a slice: what a caller that has no slice of structs calls.
+// For tests: four records by value, lent to `make_command_line_of` as a slice. A program that is proved by itself can make no slice of structs.
 pub fn make_command_line_of_four(
     program: &[u16],
     args: [Arg; 4],
@@ -77,7 +77,7 @@ pub fn make_command_line_of_four(
     make_command_line_of(program, &args, text, force_quotes, out)
 }
 
-// Four records by value, lent to `make_bat_command_line_of` as a slice.
+// For tests: four records by value, lent to `make_bat_command_line_of` as a slice.
 pub fn make_bat_command_line_of_four(
     script: &[u16],
     args: [Arg; 4],

@@ -34,7 +34,7 @@ fn row(count: usize, least: u8, most: u8) -> Lead
 }
 
 // The row of a first byte.
-pub fn lead_of(byte: u8) -> Lead
+fn lead_of(byte: u8) -> Lead
     ensures { λ r. ⌜ r ≡ leadOf byte ⌝ }
 {
     match byte {
@@ -131,7 +131,7 @@ fn value_of(count: usize, bytes: &[u8]) -> u32
 }
 
 // The character that bytes begin with.
-pub fn scalar_of(bytes: &[u8]) -> Scalar
+fn scalar_of(bytes: &[u8]) -> Scalar
     ensures { λ r. ⌜ r ≡ scalarOf (now (bytes .entry)) ⌝ }
 {
     if 0 < bytes.len() {

@@ -39,7 +39,7 @@ pub fn is_plain(colons: bool, unit: u16) -> bool
 }
 
 // The value of a hexadecimal digit in lower case, and 16 for any other byte.
-pub fn hex_value(byte: u8) -> u16
+fn hex_value(byte: u8) -> u16
     ensures { λ r. ⌜ r ≡ hexValue byte ⌝ }
 {
     if byte < 48 {

@@ -34,7 +34,7 @@ pub fn word_end(line: &[u8], at: usize) -> usize
 }
 
 // All words from an index on, by their letters.
-pub fn take_words(
+fn take_words(
     line: &[u8],
     start: usize,
     letters: &[u8],
