@@ -14,7 +14,7 @@ use Rattle.rules.specs.Choice.{pick, both, either, flip}
 use Rattle.laws.specs.Placed.{Placed}
 use Rattle.laws.specs.Store.{sets-front}
 use Rattle.rules.specs.Record.{part}
-use Rattle.words.specs.Form.{isPlain, each, shown, shownUnit}
+use Rattle.forms.specs.Form.{isPlain, each, shown, shownUnit}
 use Rattle.replies.specs.Page.{Page, page, onPage, putOn, putAll, Puts}
 use Rattle.replies.specs.Show.{separatorOf, colonsOf, afterOf, textsIn, textsBytes}
 use Rattle.replies.specs.declared.places.Place.{Place}

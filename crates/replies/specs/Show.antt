@@ -8,7 +8,7 @@ use Rattle.rules.specs.Choice.{pick}
 use Rattle.rules.specs.Unit.{units}
 use Rattle.rules.specs.Status.{digits}
 use Rattle.rules.specs.Record.{part}
-use Rattle.words.specs.Form.{each, shown}
+use Rattle.forms.specs.Form.{each, shown}
 use Rattle.replies.specs.declared.answers.Answer.{Answer}
 use Rattle.replies.specs.declared.answers.Manner.{Manner}
 use Rattle.replies.specs.declared.answers.Manner.the-variants as Manner

@@ -2,7 +2,7 @@
 ghost use mathlib.Core.Path.{_≡_};
 ghost use mathlib.Core.List.{_∷_};
 ghost use lib.ListN.{drop};
-ghost use Rattle.words.specs.Form.{each, shown};
+ghost use Rattle.forms.specs.Form.{each, shown};
 ghost use Rattle.replies.specs.Page.{Puts};
 ghost use Rattle.replies.specs.Show.{numberBytes, numberIf, wordBytes, separatorOf, colonsOf, afterOf, textsIn, textsBytes, answerBytes};
 use crate::places::Place;

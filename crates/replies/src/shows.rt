@@ -1,13 +1,13 @@
 // Numbers, units and texts in their forms.
-ghost use Rattle.words.specs.Form.{each, shownUnit, shown};
+ghost use Rattle.forms.specs.Form.{each, shownUnit, shown};
 ghost use Rattle.replies.specs.Page.{Puts};
 ghost use Rattle.replies.specs.Show.{decimal, numberBytes};
 use crate::places::Place;
 use crate::places::put;
 use crate::places::put_run;
+use forms::steps::is_plain;
 use octets::digits::put_braced;
 use octets::digits::put_digits;
-use words::forms::is_plain;
 
 // A number in decimal.
 fn put_decimal(piece: &mut [u8], p: Place, number: u64) -> Place

@@ -9,12 +9,12 @@ use lib.ListN.{length, take, drop, set, length-append, length-drop, length-take}
 use lib.Seq.{sets, sets-eq, length-take-le, take-at}
 use borrow.Author.Tests.{lt-ltb, le-ltb}
 use Rattle.laws.specs.Store.{part-is}
-use Rattle.words.specs.Text.{Taken, taken, ill, textOf, Filled}
-use Rattle.words.specs.Number.{numberOf, Numbered}
+use Rattle.forms.specs.Text.{Taken, taken, ill, textOf, Filled}
+use Rattle.forms.specs.Number.{numberOf, Numbered}
 use Rattle.words.specs.Field.{Flat, follow, spanned, fieldOn, heldIn, Pushed, Room, growsIn, Grew}
 use Rattle.words.specs.Shape.{colonIn, shapeAt, shapeOn}
-use Rattle.words.specs.declared.numbers.Number.the-variants as Number
-use Rattle.words.specs.declared.texts.Filling.the-variants as Filling
+use Rattle.forms.specs.declared.numbers.Number.the-variants as Number
+use Rattle.forms.specs.declared.texts.Filling.the-variants as Filling
 use Rattle.words.specs.declared.fields.Field.{Field}
 use Rattle.words.specs.declared.fields.Field.the-variants as Field
 use Rattle.words.specs.declared.fields.Held.{Held}

@@ -1,4 +1,2 @@
-pub mod Putting
-pub mod Scanning
 pub mod Holding
 pub mod Lining

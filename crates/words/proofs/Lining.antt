@@ -16,7 +16,7 @@ use Rattle.rules.specs.Record.{part}
 use Rattle.laws.specs.Store.{part-is}
 use Rattle.laws.specs.Scan.{leading, before, leading-in}
 use Rattle.laws.specs.Equal.{equal}
-use Rattle.words.specs.Text.{ill}
+use Rattle.forms.specs.Text.{ill}
 use Rattle.words.specs.Word.{onto, wordsOf, wordsAt}
 use Rattle.words.specs.Field.{heldIn, Grew}
 use Rattle.words.specs.Shape.{shapeAt, shapeOn}

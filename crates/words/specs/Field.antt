@@ -3,8 +3,8 @@ use Prim.Native.Nat.{ℕ, _+_, _/_, _%_, _≤_, _<_}
 use mathlib.Core.Path.{_≡_}
 use mathlib.Core.List.{List, [], _∷_, _++_}
 use lib.ListN.{length, take}
-use Rattle.words.specs.Text.{Taken, taken, ill, textOf}
-use Rattle.words.specs.Number.{numberOf}
+use Rattle.forms.specs.Text.{Taken, taken, ill, textOf}
+use Rattle.forms.specs.Number.{numberOf}
 use Rattle.words.specs.declared.fields.Field.{Field}
 use Rattle.words.specs.declared.fields.Field.the-variants as Field
 use Rattle.words.specs.declared.fields.Held.{Held}

@@ -7,7 +7,7 @@ use lib.ListN.{length, getD}
 use Rattle.rules.specs.Choice.{pick}
 use Rattle.rules.specs.Record.{part}
 use Rattle.laws.specs.Equal.{equal}
-use Rattle.words.specs.Text.{Taken, taken, ill}
+use Rattle.forms.specs.Text.{Taken, taken, ill}
 use Rattle.words.specs.Word.{wordsOf, wordsAt}
 use Rattle.words.specs.Field.{Flat, follow, heldIn, holdingSaid}
 use Rattle.words.specs.Shape.{shapeAt, shapeOn}

@@ -6,7 +6,7 @@ use lib.Dec.{eqb, ltb}
 use lib.ListN.{length, getD, take, drop}
 use Rattle.rules.specs.Choice.{pick}
 use Rattle.laws.specs.Scan.{leading, before}
-use Rattle.words.specs.Text.{Taken, ill}
+use Rattle.forms.specs.Text.{Taken, ill}
 use Rattle.words.specs.Field.{Flat, follow, fieldOn}
 use Rattle.words.specs.declared.fields.Field.the-variants as Field
 use Rattle.words.specs.declared.shapes.Shape.{Shape}

@@ -4,10 +4,10 @@ ghost use Prim.Native.Nat.{ℕ, _+_, _<_};
 ghost use lib.ListN.{length};
 ghost use Rattle.words.specs.Field.{Pushed, Room, Grew, fieldOn, heldIn};
 ghost use Rattle.words.specs.declared.fields.Field.the-variants as Field;
-use crate::numbers::Number;
-use crate::numbers::number_of;
-use crate::texts::Filling;
-use crate::texts::take_text;
+use forms::numbers::Number;
+use forms::numbers::number_of;
+use forms::texts::Filling;
+use forms::texts::take_text;
 
 // How many units and how many numbers are held.
 pub struct Held {

@@ -3,7 +3,7 @@ ghost use Prim.Native.Nat.{_≤_};
 ghost use lib.Dec.{ltb};
 ghost use lib.ListN.{length};
 ghost use Rattle.rules.specs.Choice.{pick};
-ghost use Rattle.words.specs.Text.{ill};
+ghost use Rattle.forms.specs.Text.{ill};
 ghost use Rattle.words.specs.Word.{wordsAt};
 ghost use Rattle.words.specs.Line.{Ends, Roomy, Took, Lined, none, wordsBy, lineOn, longestIn};
 use crate::fields::Held;

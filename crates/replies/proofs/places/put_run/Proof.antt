@@ -4,7 +4,7 @@ use Rattle.replies.proofs.Putting.{Still, all-left, each-done, each-ste
 use lib.ListN.{drop, length}
 use Prim.Native.Nat.{_-_}
 use mathlib.Core.List.{[], _∷_}
-use Rattle.words.specs.Form.{each}
+use Rattle.forms.specs.Form.{each}
 use Rattle.replies.proofs.places.put_run.Statement.{statement}
 use Rattle.replies.proofs.places.put_run.Tie as tie
 

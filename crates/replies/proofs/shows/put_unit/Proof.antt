@@ -5,7 +5,7 @@ use native.Mathlib.Omega.{arith}
 use lib.Seq.{length-take-le}
 use mathlib.Core.Path.{_∙_, sym}
 use Rattle.octets.specs.Braced.{braced-short}
-use Rattle.words.specs.Form.{shownUnit}
+use Rattle.forms.specs.Form.{shownUnit}
 use Rattle.replies.proofs.shows.put_unit.Statement.{statement}
 use Rattle.replies.proofs.shows.put_unit.Tie as tie
 

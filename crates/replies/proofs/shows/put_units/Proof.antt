@@ -3,7 +3,7 @@ use borrow.Author.Needs.{needs}
 use Rattle.replies.proofs.Putting.{Still, all-left, each-done, each-step, same-still}
 use lib.ListN.{drop, length}
 use Prim.Native.Nat.{_-_}
-use Rattle.words.specs.Form.{each, shownUnit}
+use Rattle.forms.specs.Form.{each, shownUnit}
 use Rattle.replies.proofs.shows.put_units.Statement.{statement}
 use Rattle.replies.proofs.shows.put_units.Tie as tie
 
