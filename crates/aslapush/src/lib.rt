@@ -98,11 +98,7 @@ pub extern "C" fn aslapush_code(status: u32) -> i32
 pub extern "C" fn aslapush_has_bat_extension(path: &[u16]) -> u32
     ensures { λ r. ⌜ r ≡ asNumber (hasBatchSuffix (now (path .entry))) ⌝ }
 {
-    if building::has_bat_extension(path) {
-        1
-    } else {
-        0
-    }
+    if names::has_bat_extension(path) { 1 } else { 0 }
 }
 
 // The class of a unit, 0 to 7.

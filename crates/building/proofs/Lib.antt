@@ -1,6 +1,3 @@
-pub mod Letters
-pub mod Judged
 pub mod Forms
+pub mod Frame
 pub mod Adding
-pub mod Script
-pub mod Head

@@ -8,10 +8,11 @@ use Rattle.rules.specs.Unit.{isNul}
 use Rattle.rules.specs.Outcome.{refuse, firstFault, unless, limited}
 use Rattle.rules.specs.Record.{Argument, argumentsOf, argumentFault}
 use Rattle.rules.specs.Building.{lineLimit, nulFinding, line, batchLine, commandLine, batchCommandLine, eitherLine}
+use Rattle.names.specs.Name.{nameOf, frontOf, headOf}
 use Rattle.building.specs.declared.styles.Style.{Style}
 use Rattle.building.specs.Limits.{limitOf}
-use Rattle.building.specs.Records.{recordsOf}
-use Rattle.building.specs.Line.{nameOf, frontOf, headOf, ruleOf, wholeLine, lineLimited, lineNamed, lineOutcome}
+use Rattle.records.specs.Records.{recordsOf}
+use Rattle.building.specs.Line.{ruleOf, wholeLine, lineLimited, lineNamed, lineOutcome}
 
 -- an ordinary line, its quotes forced or not
 abbrev ordinary : Bool → Style

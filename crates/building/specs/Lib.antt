@@ -1,9 +1,7 @@
 pub mod Limits
-pub mod Records
 pub mod Line
 pub mod Passes
 pub mod Works
-pub mod Flat
 pub mod Rows
 pub mod Both
 pub mod Turns

@@ -8,30 +8,14 @@ use Rattle.rules.specs.Choice.{both, any}
 use Rattle.rules.specs.Unit.{isNul, isLineBreak, quote}
 use Rattle.rules.specs.Outcome.{Outcome, refuse, Finding, wrongIf, Fault, faultFrom, firstFault, unless, limited}
 use Rattle.rules.specs.Record.{Argument, argumentOf, isRegular}
-use Rattle.rules.specs.Quoting.{form, enclosed}
+use Rattle.rules.specs.Quoting.{form}
 use Rattle.rules.specs.Batch.{batchForm}
-use Rattle.rules.specs.Building.{tail, nulFinding, scriptOf, batchFront, isNoScript}
+use Rattle.rules.specs.Building.{tail, nulFinding, isNoScript}
+use Rattle.names.specs.Name.{nameOf, headOf}
 use Rattle.building.specs.declared.styles.Style.{Style}
 use Rattle.building.specs.Limits.{limitOf, counted}
 
 -- ---- its parts
-
--- the name that a line starts with: the program, or the script without one final NUL
-unfoldable pub nameOf : Bool → List ℕ → List ℕ
-unfolding scriptOf
-nameOf true lent = scriptOf lent
-nameOf false lent = lent
-
--- what stands before the name: the 28 units of a batch line, or nothing
-unfoldable pub frontOf : Bool → List ℕ
-unfolding batchFront
-frontOf true = batchFront
-frontOf false = []
-
--- what stands before the arguments
-unfoldable pub headOf : Bool → List ℕ → List ℕ
-unfolding frontOf
-headOf batch name = frontOf batch ++ enclosed name
 
 -- what stands behind them: the last quote of a batch line, or nothing
 abbrev pub endOf : Bool → List ℕ

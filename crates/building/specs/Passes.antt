@@ -18,7 +18,7 @@ use Rattle.building.specs.declared.works.Pass.the-variants.{Records, Uni
 use Rattle.building.specs.declared.works.Progress.{Progress}
 use Rattle.building.specs.declared.works.Progress.the-variants.{On, Stopped}
 use Rattle.building.specs.Limits.{countCap, counted}
-use Rattle.building.specs.Records.{isWrong}
+use Rattle.records.specs.Records.{isWrong}
 use Rattle.building.specs.Line.{breaksLine, ruleOf}
 
 -- ---- judging

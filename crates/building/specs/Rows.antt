@@ -9,8 +9,9 @@ use Rattle.rules.specs.Record.{Argument, isRegular}
 use Rattle.rules.specs.Building.{written}
 use Rattle.laws.specs.Choice.{choose}
 use Rattle.laws.specs.Length.{form-length, batch-form-length}
+use Rattle.names.specs.Name.{headOf}
 use Rattle.building.specs.declared.styles.Style.{Style}
-use Rattle.building.specs.Line.{headOf, endOf, ruleOf, rowOf, wholeLine}
+use Rattle.building.specs.Line.{endOf, ruleOf, rowOf, wholeLine}
 use Rattle.building.specs.Passes.{mostUnits, piece}
 
 -- the most units that arguments can take, with the space before each

@@ -23,20 +23,21 @@ use Rattle.rules.specs.Answer.{refusal, refusalSaid, wrote, builtSaid, Answered
 use Rattle.laws.specs.Answer.{refusalOf, refusal-back, some-number}
 use Rattle.laws.specs.Store.{sets-append, sets-front}
 use Rattle.laws.specs.Placed.{Left, less-left}
+use Rattle.names.specs.Name.{nameOf, headOf}
 use Rattle.building.specs.declared.styles.Style.{Style}
-use Rattle.building.specs.declared.records.Verdict.{Verdict}
-use Rattle.building.specs.declared.records.Verdict.the-variants.{Sound, Wrong}
+use Rattle.records.specs.declared.Verdict.{Verdict}
+use Rattle.records.specs.declared.Verdict.the-variants.{Sound, Wrong}
 use Rattle.building.specs.declared.works.Pass.{Pass}
 use Rattle.building.specs.declared.works.Pass.the-variants.{Records, Units, Measure, Write}
 use Rattle.building.specs.declared.works.Progress.{Progress}
 use Rattle.building.specs.declared.works.Progress.the-variants.{On, Stopped}
 use Rattle.building.specs.declared.works.Work.{Work}
 use Rattle.building.specs.Limits.{limitOf, countCap, counted, cap-covers}
-use Rattle.building.specs.Records.{isWrong, noArg, recordsOf, verdictFault}
-use Rattle.building.specs.Line.{nameOf, headOf, endOf, frameUnits, rowOf, wholeLine, breaksLine, unitsFinding, lineLimited, lineNamed, lineOutcome}
+use Rattle.records.specs.Records.{isWrong, noArg, recordsOf, verdictFault}
+use Rattle.building.specs.Line.{endOf, frameUnits, rowOf, wholeLine, breaksLine, unitsFinding, lineLimited, lineNamed, lineOutcome}
 use Rattle.building.specs.Passes.{mostUnits, stored, piece, passed, passedOut}
 use Rattle.building.specs.Works.{begunAt, begun, answerOf, entered, stopped, progressed, opened, openedOut, ended, closedIn, closedOut, Turned}
-use Rattle.building.specs.Flat.{whole-count, flat-records, flat-back, faults-whole}
+use Rattle.records.specs.Flat.{whole-count, flat-records, flat-back, faults-whole}
 use Rattle.building.specs.Both.{either-is}
 use Rattle.building.specs.Rows.{mostOf, row-most, whole-length}
 

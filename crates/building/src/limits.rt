@@ -1,6 +1,7 @@
-// The most units of a line, and the count of a line's units, which stops at a cap.
+// The most units of a line, the count of a line's units, which stops at a cap, and what stands round the arguments.
 ghost use mathlib.Core.Path.{_≡_};
 ghost use Rattle.building.specs.Limits.{limitOf, counted};
+ghost use Rattle.building.specs.Line.{frameUnits};
 
 // The most units of an ordinary line that is built.
 const LINE_LIMIT: usize = 32767;
@@ -29,4 +30,14 @@ pub fn count_on(units: usize, more: usize) -> usize
         return COUNT_CAP;
     }
     units + more
+}
+
+// How many units stand round the arguments: before them, and behind them the last quote of a batch line.
+pub fn frame_units(batch: bool, name: &[u16]) -> usize
+    ensures { λ r. ⌜ r ≡ frameUnits batch (now (name .entry)) ⌝ }
+{
+    if batch {
+        return count_on(name.len(), 31);
+    }
+    count_on(name.len(), 2)
 }

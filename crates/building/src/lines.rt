@@ -2,7 +2,6 @@
 ghost use lib.ListN.{length};
 ghost use Rattle.rules.specs.Answer.{Answered, builtSaid};
 ghost use Rattle.rules.specs.Building.{eitherLine};
-use crate::records;
 use crate::turns;
 use crate::works;
 use rules::Built;

@@ -3,7 +3,6 @@ ghost use mathlib.Core.Path.{_≡_};
 ghost use lib.ListN.{length};
 ghost use Rattle.building.specs.Works.{afterRecords, Staged, surelyFits, afterUnits, afterUnitsOut, afterMeasuring, afterMeasuringOut, opened, openedOut, afterWriting, afterWritingOut};
 use crate::limits;
-use crate::names;
 use crate::works;
 use crate::works::Pass;
 use crate::works::Work;
@@ -23,7 +22,7 @@ pub fn after_records(work: Work, lent: &[u16]) -> Work
     if scans::has_nul(name) {
         return works::stop(work, Refusal::Nul(0));
     }
-    works::enter(work, Pass::Units, names::frame_units(style.batch, name))
+    works::enter(work, Pass::Units, limits::frame_units(style.batch, name))
 }
 
 // Into writing: what stands before the arguments. Nothing is stored before this.
@@ -54,7 +53,7 @@ pub fn after_units(work: Work, lent: &[u16], out: &mut [u16]) -> Work
         return open(work, lent, out);
     }
     let name = names::name_of(style.batch, lent);
-    works::enter(work, Pass::Measure, names::frame_units(style.batch, name))
+    works::enter(work, Pass::Measure, limits::frame_units(style.batch, name))
 }
 
 // Behind measuring: 2, then 4, both on the whole line.

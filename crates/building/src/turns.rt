@@ -5,7 +5,6 @@ ghost use Rattle.units.specs.Table.{classTable};
 ghost use Rattle.building.specs.Passes.{recordJudged, lentUnits};
 ghost use Rattle.building.specs.Works.{Taken, Closed, Turned};
 use crate::judging;
-use crate::records;
 use crate::stages;
 use crate::works;
 use crate::works::Pass;

@@ -2,8 +2,8 @@
 ghost use mathlib.Core.Path.{_≡_};
 ghost use Prim.Native.Nat.{_<_};
 ghost use Rattle.building.specs.Works.{begun, begunAt, entered, stopped, finished, progressed, answerOf};
-use crate::records::Verdict;
 use crate::styles::Style;
+use records::Verdict;
 use rules::Built;
 use rules::Refusal;
 use units::refusals;

@@ -69,7 +69,7 @@ use Rattle.units.proofs.classes.classes.Symbol as cls-def
 use Rattle.units.proofs.classes.classes.Symbol.{name as #units·classes·classes}
 use Rattle.units.proofs.classes.classes.Met as cls-thm
 use Rattle.building.specs.declared.works.Work.{Work}
-use Rattle.building.specs.Records.{noArg}
+use Rattle.records.specs.Records.{noArg}
 use Rattle.building.specs.Works.{begunAt, answerOf, Turned}
 use Rattle.building.specs.Turns.{Stands, turnsLeft, turns as turned-on, stands-begun, stands-last}
 use Rattle.slices.proofs.Shapes.{unitsTy, argsTy, outTy, outPtr, arrayTy, arrayPtr, built-typed, array-lies, array-leaves}
