@@ -1,13 +1,9 @@
-// The questions: a row of the table and a small function for each, and what an entry point said as an answer.
-use crate::told::brief;
+// The questions: the table with a row for each, and the function that answers it.
 use replies::answers::Answer;
 use replies::answers::Word;
+use sayings::brief;
 use words::lines::Line;
 use words::lines::take_line;
-
-mod asked;
-mod lent;
-mod told;
 
 // Each question's verb, and a letter for each word behind it (`words`, shapes); the last letter stands for all further words, and `.` for none.
 const ROWS: [[u8; 20]; 12] = [
@@ -34,18 +30,18 @@ fn ask_row(
     spans: &mut [u32],
 ) -> Answer {
     match row {
-        0 => asked::read(text, numbers, out, spans),
-        1 => asked::line(false, text, numbers, out, spans),
-        2 => asked::line(true, text, numbers, out, spans),
-        3 => asked::env(text, numbers, out, spans),
-        4 => asked::suffix(text, numbers),
-        5 => asked::status(numbers, out, spans),
-        6 => lent::line(false, text, numbers, out, spans),
-        7 => lent::line(true, text, numbers, out, spans),
-        8 => lent::env(text, numbers, out, spans),
-        9 => lent::status(text, numbers, out, spans),
-        10 => lent::read(text, numbers, out, spans),
-        11 => lent::argument(text, numbers, out, spans),
+        0 => requests::read(text, numbers, out, spans),
+        1 => requests::line(false, text, numbers, out, spans),
+        2 => requests::line(true, text, numbers, out, spans),
+        3 => requests::env(text, numbers, out, spans),
+        4 => requests::suffix(text, numbers),
+        5 => requests::status(numbers, out, spans),
+        6 => loans::line(false, text, numbers, out, spans),
+        7 => loans::line(true, text, numbers, out, spans),
+        8 => loans::env(text, numbers, out, spans),
+        9 => loans::status(text, numbers, out, spans),
+        10 => loans::read(text, numbers, out, spans),
+        11 => loans::argument(text, numbers, out, spans),
         _ => brief(Word::Bad, 0, 0, 0, 0),
     }
 }

@@ -1,0 +1,73 @@
+-- What is answered, from what an entry point said. Assumes nothing.
+use Prim.Native.Nat.{ℕ, _*_, min}
+use mathlib.Core.Path.{_≡_}
+use mathlib.Core.Bool.{Bool, false}
+use mathlib.Core.List.{List}
+use lib.Dec.{eqb}
+use Rattle.rules.specs.Choice.{pick}
+use Rattle.rules.specs.Outcome.{Outcome}
+use Rattle.rules.specs.Answer.{Said, Answered}
+use Rattle.replies.specs.declared.answers.Answer.{Answer}
+use Rattle.replies.specs.declared.answers.Manner.the-variants as Manner
+use Rattle.replies.specs.declared.answers.Word.{Word}
+use Rattle.replies.specs.declared.answers.Word.the-variants as Word
+use Rattle.sayings.specs.declared.Saying.{Saying}
+
+-- the same in the document's numbers
+abbrev pub saidIn : Saying → Said
+saidIn s = record { number = s .number; place = s .place; arguments = s .arguments; units = s .units }
+
+-- a word and so many of two numbers, the texts that so many numbers of the span table name, and the numbers from one place of the table up to another
+abbrev pub answer : Word → ℕ → ℕ → ℕ → ℕ → ℕ → ℕ → Bool → Answer
+answer word count first second spans from to negative =
+    record {
+      word = word;
+      count = count;
+      first = first;
+      second = second;
+      manner = Manner.Text;
+      spans = spans;
+      from = from;
+      to = to;
+      negative = negative;
+    }
+
+-- a word and numbers, and texts behind them
+abbrev pub brief : Word → ℕ → ℕ → ℕ → ℕ → Answer
+brief word count first second spans = answer word count first second spans 0 0 false
+
+-- `refused NUMBER PLACE`, with texts behind it
+abbrev pub refusedTold : Said → ℕ → Answer
+refusedTold said spans = brief Word.Refused 2 (said .number) (said .place) spans
+
+-- No refusal has the number 0, which says that there is none.
+abbrev pub orRefused : Said → ℕ → Answer → Answer
+orRefused said spans answer = pick (eqb (said .number) 0) answer (refusedTold said spans)
+
+-- `ok TEXT`
+unfoldable pub textTold : Said → Answer
+textTold said = orRefused said 0 (brief Word.Ok 0 0 0 2)
+
+-- `ok UNITS OUT`, or `refused NUMBER PLACE OUT`
+unfoldable pub lentTold : Said → Answer
+lentTold said = orRefused said 2 (brief Word.Ok 1 (said .units) 0 2)
+
+-- `ok COUNT A0 A1 ..`, by a span table of so many places
+unfoldable pub textsTold : ℕ → Said → Answer
+textsTold places said = orRefused said 0 (brief Word.Ok 1 (said .arguments) 0 (min (said .arguments * 2) places))
+
+-- `ok COUNT UNITS TEXT`, or `refused NUMBER PLACE TEXT`
+unfoldable pub countsTold : Said → Answer
+countsTold said = orRefused said 2 (brief Word.Ok 2 (said .arguments) (said .units) 2)
+
+-- the same answer with the numbers from one place of the table up to another
+abbrev pub numbered : Answer → ℕ → ℕ → Bool → Answer
+numbered a from to negative = record { word = a .word; count = a .count; first = a .first; second = a .second; manner = a .manner; spans = a .spans; from = from; to = to; negative = negative }
+
+-- ---- contracts
+
+-- what is answered is shown of what is said of the outcome, and the output holds what the outcome leaves in it
+pub record Tells (o : Outcome (List ℕ)) (shows : Said → Answer) (r : Answer) (before after : List ℕ) : Type 0 where
+  pub said : Said
+  pub answered : Answered o said before after
+  pub shown : r ≡ shows said

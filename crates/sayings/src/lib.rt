@@ -1,0 +1,175 @@
+// What an entry point said, as an answer: `ok` with numbers and texts, or `refused` with the number and the place.
+ghost use mathlib.Core.Path.{_≡_};
+ghost use mathlib.Core.List.{[], _∷_};
+ghost use Prim.Native.Nat.{_*_, min};
+ghost use lib.Seq.{sets};
+ghost use Rattle.rules.specs.Answer.{builtSaid, filledSaid, parsedSaid, refusalSaid};
+ghost use Rattle.rules.specs.declared.Built.the-variants as Built;
+ghost use Rattle.sayings.specs.Told.{brief as Told·brief};
+ghost use Rattle.sayings.specs.Told.{saidIn, numbered, textTold, lentTold, textsTold, countsTold};
+use replies::answers::Answer;
+use replies::answers::Manner;
+use replies::answers::Word;
+use rules::Built;
+use rules::Filled;
+use rules::Parsed;
+use rules::Refusal;
+use units::parts::smaller;
+use units::refusals::number_of;
+use units::refusals::place_of;
+use units::stores::put_number;
+
+pub mod either;
+
+// What an entry point said, in numbers: the refusal's, or 0 and the counts.
+pub struct Saying {
+    pub number: u64,
+    pub place: u64,
+    pub arguments: u64,
+    pub units: u64,
+}
+
+// Why there is no result.
+fn of_refusal(r: Refusal) -> Saying
+    ensures { λ s. ⌜ saidIn s ≡ refusalSaid r ⌝ }
+{
+    Saying {
+        number: number_of(r) as u64,
+        place: place_of(r) as u64,
+        arguments: 0,
+        units: 0,
+    }
+}
+
+// So many units.
+fn of_units(units: usize) -> Saying
+    ensures { λ s. ⌜ saidIn s ≡ builtSaid (Built.Line units) ⌝ }
+{
+    Saying {
+        number: 0,
+        place: 0,
+        arguments: 0,
+        units: units as u64,
+    }
+}
+
+// What a builder of lines said.
+pub fn of_built(b: Built) -> Saying
+    ensures { λ s. ⌜ saidIn s ≡ builtSaid b ⌝ }
+{
+    match b {
+        Built::Line { units } => of_units(units),
+        Built::Refused(r) => of_refusal(r),
+    }
+}
+
+// What a writer of units said.
+pub fn of_filled(f: Filled) -> Saying
+    ensures { λ s. ⌜ saidIn s ≡ filledSaid f ⌝ }
+{
+    match f {
+        Filled::Units(units) => of_units(units),
+        Filled::Refused(r) => of_refusal(r),
+    }
+}
+
+// What the reader said.
+pub fn of_parsed(p: Parsed) -> Saying
+    ensures { λ s. ⌜ saidIn s ≡ parsedSaid p ⌝ }
+{
+    match p {
+        Parsed::Arguments { count, units } => Saying {
+            number: 0,
+            place: 0,
+            arguments: count as u64,
+            units: units as u64,
+        },
+        Parsed::Refused(r) => of_refusal(r),
+    }
+}
+
+// A word, so many of two numbers, and the texts that so many numbers of the span table name.
+pub fn brief(word: Word, count: usize, first: u64, second: u64, spans: usize) -> Answer
+    ensures { λ r. ⌜ r ≡ Told·brief word count first second spans ⌝ }
+{
+    Answer {
+        word,
+        count,
+        first,
+        second,
+        manner: Manner::Text,
+        spans,
+        from: 0,
+        to: 0,
+        negative: false,
+    }
+}
+
+// The same answer with the numbers from one place of the table up to another.
+pub fn with_numbers(a: Answer, from: usize, to: usize, negative: bool) -> Answer
+    ensures { λ r. ⌜ r ≡ numbered a from to negative ⌝ }
+{
+    let mut r = a;
+    r.from = from;
+    r.to = to;
+    r.negative = negative;
+    r
+}
+
+// Names so many units in front of the output as the table's first text.
+pub fn name_front(spans: &mut [u32], units: usize)
+    ensures { λ _. ⌜ now (spans .exit) ≡ sets (now (spans .entry)) 0 (0 ∷ min units 4294967295 ∷ []) ⌝ }
+{
+    put_number(spans, 0, 0);
+    put_number(spans, 1, smaller(units, 4294967295) as u32);
+}
+
+// `ok TEXT`
+pub fn text_told(s: Saying) -> Answer
+    ensures { λ r. ⌜ r ≡ textTold (saidIn s) ⌝ }
+{
+    if s.number == 0 {
+        return brief(Word::Ok, 0, 0, 0, 2);
+    }
+    brief(Word::Refused, 2, s.number, s.place, 0)
+}
+
+// `ok UNITS OUT`, or `refused NUMBER PLACE OUT`
+pub fn lent_told(s: Saying) -> Answer
+    ensures { λ r. ⌜ r ≡ lentTold (saidIn s) ⌝ }
+{
+    if s.number == 0 {
+        return brief(Word::Ok, 1, s.units, 0, 2);
+    }
+    brief(Word::Refused, 2, s.number, s.place, 2)
+}
+
+// So many places of a table, two for each argument.
+fn places_of(arguments: u64, places: usize) -> usize
+    ensures { λ r. ⌜ r ≡ min (arguments * 2) places ⌝ }
+{
+    if ((places / 2) as u64) < arguments {
+        return places;
+    }
+    (arguments * 2) as usize
+}
+
+// `ok COUNT A0 A1 ..`, by a span table of so many places
+pub fn texts_told(s: Saying, places: usize) -> Answer
+    ensures { λ r. ⌜ r ≡ textsTold places (saidIn s) ⌝ }
+{
+    if s.number == 0 {
+        return brief(Word::Ok, 1, s.arguments, 0, places_of(s.arguments, places));
+    }
+    brief(Word::Refused, 2, s.number, s.place, 0)
+}
+
+// `ok COUNT UNITS TEXT`, or `refused NUMBER PLACE TEXT`
+pub fn counts_told(s: Saying) -> Answer
+    ensures { λ r. ⌜ r ≡ countsTold (saidIn s) ⌝ }
+{
+    if s.number == 0 {
+        return brief(Word::Ok, 2, s.arguments, s.units, 2);
+    }
+    brief(Word::Refused, 2, s.number, s.place, 2)
+}
