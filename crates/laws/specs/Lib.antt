@@ -23,3 +23,4 @@ pub mod Told
 pub mod Parts
 pub mod Records
 pub mod Run
+pub mod Last

@@ -52,7 +52,7 @@ pub fn is_no_script(batch: bool, lent: &[u16]) -> bool
     if scans::has_quote(lent) {
         return true;
     }
-    quoting::scans::ends_in_backslash(lent)
+    scans::ends_in_backslash(lent)
 }
 
 // The script without one final NUL.

@@ -1,5 +1,5 @@
--- What decides on quotes: emptiness, the last unit, and a unit's class. Assumes nothing.
-use Prim.Native.Nat.{ℕ, zero, suc, _+_, _-_, _<_, _≤_}
+-- What decides on quotes: emptiness and a unit's class. Assumes nothing.
+use Prim.Native.Nat.{ℕ, zero, suc, _+_, _<_, _≤_}
 use native.Mathlib.Omega.{arith}
 use native.Mathlib.Numerals.{add-one}
 use mathlib.Core.Path.{_≡_, refl, sym, _∙_}
@@ -9,8 +9,7 @@ use lib.Dec.{eqb}
 use lib.ListN.{length, drop, getD, drop-of-length-le}
 use lib.Seq.{drop-cons}
 use Rattle.rules.specs.Choice.{either, any, isEmpty}
-use Rattle.rules.specs.Unit.{isBackslash, classOf}
-use Rattle.rules.specs.Batch.{endsInBackslash}
+use Rattle.rules.specs.Unit.{classOf}
 use Rattle.laws.specs.Class.{class-most, class-tests}
 use Rattle.quoting.specs.Emitted.{isSettling, settlesBy}
 
@@ -23,21 +22,6 @@ empty (x ∷ xs) h = absurd (omega arith)
 pub filled : (xs : List ℕ) → (length xs ≡ 0 → ⊥) → isEmpty xs ≡ false
 filled [] h = absurd (h refl)
 filled (x ∷ xs) h = refl
-
--- the last unit decides whether a list ends in a backslash
-pub last-unit : (xs : List ℕ) → isBackslash (getD xs (length xs - 1) 0) ≡ endsInBackslash xs
-unfolding endsInBackslash
-last-unit [] = refl
-last-unit (x ∷ []) = refl
-last-unit (x ∷ y ∷ ys) =
-    let e : suc (suc (length ys)) - 1 ≡ suc (suc (length ys) - 1) = omega arith in
-    rw e (last-unit (y ∷ ys))
-
--- a list of length 0 ends in none
-pub no-last : (xs : List ℕ) → length xs ≡ 0 → false ≡ endsInBackslash xs
-unfolding endsInBackslash
-no-last [] h = refl
-no-last (x ∷ xs) h = absurd (omega arith)
 
 -- one unit further of a search for any that passes the test
 pub any-turn : (p : ℕ → Bool) (xs : List ℕ) (i : ℕ) (found : Bool) → i < length xs

@@ -5,7 +5,6 @@ ghost use Rattle.rules.specs.Quoting.{needsQuotes};
 ghost use Rattle.rules.specs.Batch.{needsBatchQuotes};
 ghost use Rattle.units.specs.Table.{classTable};
 ghost use Rattle.quoting.specs.Emitted.{isSettling, settlesBy};
-use crate::scans;
 use units::classes;
 
 // Whether a unit of this class settles that quotes are needed: a blank; in a batch argument any forcing unit.
@@ -73,7 +72,7 @@ pub fn needs_batch_quotes(classes: &[u8; 256], arg: &[u16], force: bool) -> bool
     if arg.len() == 0 {
         return true;
     }
-    if scans::ends_in_backslash(arg) {
+    if units::scans::ends_in_backslash(arg) {
         return true;
     }
     has_settling(classes, arg, true)

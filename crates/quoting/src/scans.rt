@@ -3,19 +3,8 @@ ghost use mathlib.Core.Path.{_≡_};
 ghost use Prim.Native.Nat.{_+_, _≤_};
 ghost use lib.ListN.{length};
 ghost use Rattle.rules.specs.Record.{part};
-ghost use Rattle.rules.specs.Batch.{endsInBackslash};
 ghost use Rattle.quoting.specs.Emitted.{isMark, otherMark, isAllPlain, PlainFront};
 use units::scans;
-
-// Whether the last unit is a backslash.
-pub fn ends_in_backslash(units: &[u16]) -> bool
-    ensures { λ r. ⌜ r ≡ endsInBackslash (now (units .entry)) ⌝ }
-{
-    if units.len() == 0 {
-        return false;
-    }
-    units[units.len() - 1] == 92
-}
 
 // The unit that is replaced beside the quote mark: in a batch argument the percent, else no other, so the quote mark again.
 fn other_mark(batch: bool) -> u16
@@ -35,7 +24,7 @@ pub fn is_mark(unit: u16, batch: bool) -> bool
 pub fn is_plain(arg: &[u16], batch: bool) -> bool
     ensures { λ r. ⌜ r ≡ isAllPlain batch (now (arg .entry)) ⌝ }
 {
-    if ends_in_backslash(arg) {
+    if scans::ends_in_backslash(arg) {
         return false;
     }
     !scans::has_either(arg, 34, other_mark(batch))

@@ -4,6 +4,7 @@ ghost use Prim.Native.Nat.{_+_, _≤_};
 ghost use lib.ListN.{length};
 ghost use Rattle.rules.specs.Choice.{any, flip};
 ghost use Rattle.rules.specs.Record.{part};
+ghost use Rattle.rules.specs.Batch.{endsInBackslash};
 ghost use Rattle.rules.specs.Unit.{isNul, isLineBreak, isBlank, isQuote, isBackslash};
 ghost use Rattle.laws.specs.Scan.{leading, before, isUnit, isEither, isOneOf};
 
@@ -209,4 +210,14 @@ pub fn backslashes(rest: &[u16]) -> usize
         }
     }
     i
+}
+
+// Whether the last unit is a backslash.
+pub fn ends_in_backslash(units: &[u16]) -> bool
+    ensures { λ r. ⌜ r ≡ endsInBackslash (now (units .entry)) ⌝ }
+{
+    if units.len() == 0 {
+        return false;
+    }
+    units[units.len() - 1] == 92
 }

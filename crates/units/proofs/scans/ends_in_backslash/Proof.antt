@@ -1,8 +1,8 @@
--- `quoting::scans::ends_in_backslash` meets its contract. Assumes nothing.
+-- `units::scans::ends_in_backslash` meets its contract. Assumes nothing.
 use borrow.Author.Needs.{needs}
-use Rattle.quoting.proofs.Deciding.{last-unit, no-last}
-use Rattle.quoting.proofs.scans.ends_in_backslash.Statement.{statement}
-use Rattle.quoting.proofs.scans.ends_in_backslash.Tie as tie
+use Rattle.laws.specs.Last.{last-unit, no-last}
+use Rattle.units.proofs.scans.ends_in_backslash.Statement.{statement}
+use Rattle.units.proofs.scans.ends_in_backslash.Tie as tie
 
 returns : tie.Need-returns
 returns c = no-last _ (c .if1 .taken)
