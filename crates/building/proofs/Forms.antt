@@ -19,7 +19,7 @@ use Rattle.building.specs.declared.works.Progress.the-variants.{On}
 use Rattle.building.specs.declared.works.Work.{Work}
 use Rattle.building.specs.Line.{endOf}
 use Rattle.building.specs.Passes.{stored, Added, piece, lentUnits, passed, passedOut}
-use Rattle.building.specs.Works.{progressed, finished, ended, afterWriting, afterWritingOut, Staged, Taken, closedIn, closedOut, Closed}
+use Rattle.building.specs.Works.{progressed, finished, ended, afterWriting, afterWritingOut, Staged, TakenRecord, closedIn, closedOut, Closed}
 use Rattle.building.proofs.works.Pass as P
 
 -- ---- by the pass
@@ -28,7 +28,7 @@ use Rattle.building.proofs.works.Pass as P
 pub taken-in : {text : List ℕ} {a : Arg} {w r : Work} {before after : List ℕ} (pass : Pass) → w .pass ≡ pass
     → r ≡ progressed w (passed pass (w .style) text (w .units) (w .at + 1) a)
     → after ≡ passedOut pass (w .style) text (w .units) a before
-    → Taken text a w r before after
+    → TakenRecord text a w r before after
 taken-in {text} {a} {w} {r} {before} pass e p q =
     record {
       works = p ∙ ap (λ (x : Pass). progressed w (passed x (w .style) text (w .units) (w .at + 1) a)) (sym e);
@@ -79,10 +79,10 @@ pub form-taken : {text : List ℕ} {a : Arg} {w r : Work} {before part : List �
     → n ≡ lentUnits (w .pass) (length before)
     → Added (piece (w .style) (argumentOf text a)) (w .units) count (take n before) part
     → r ≡ progressed w (On count)
-    → Taken text a w r before (part ++ drop n before)
+    → TakenRecord text a w r before (part ++ drop n before)
 form-taken {text} {a} {w} {r} {before} {part} {n} {count} keys e h p = go (w .pass) refl keys
   where
-    go : (pass : Pass) → w .pass ≡ pass → (tagOf P.the-type pass ≡ 2) ⊎ (tagOf P.the-type pass ≡ 3) → Taken text a w r before (part ++ drop n before)
+    go : (pass : Pass) → w .pass ≡ pass → (tagOf P.the-type pass ≡ 2) ⊎ (tagOf P.the-type pass ≡ 3) → TakenRecord text a w r before (part ++ drop n before)
     go Records is (inl k) = absurd (omega arith)
     go Records is (inr k) = absurd (omega arith)
     go Units is (inl k) = absurd (omega arith)

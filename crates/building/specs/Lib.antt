@@ -4,4 +4,6 @@ pub mod Passes
 pub mod Works
 pub mod Rows
 pub mod Both
+pub mod Counts
 pub mod Turns
+pub mod Starts

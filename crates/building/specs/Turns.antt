@@ -1,6 +1,6 @@
 -- What building still owes at any of its turns, and one law for every turn: whoever drives the turns cites it. Assumes nothing.
-use Prim.Native.Nat.{ℕ, _+_, _-_, _*_, _/_, _≤_, _<_}
-use native.Mathlib.Nat.{lt-of-not-le, add-zero, zero-add}
+use Prim.Native.Nat.{ℕ, _+_, _-_, _*_, _≤_, _<_}
+use native.Mathlib.Nat.{lt-of-not-le, zero-add}
 use native.Mathlib.Decide.{decLe}
 use native.Mathlib.Numerals.{add-one}
 use native.Mathlib.Omega.{arith}
@@ -17,76 +17,26 @@ use Rattle.rules.specs.declared.Refusal.the-variants as Refusal
 use Rattle.rules.specs.Choice.{pick, both, any}
 use Rattle.rules.specs.Unit.{isNul}
 use Rattle.rules.specs.Outcome.{Outcome, done, refused, refuse, sound, wrongIf, faultAt, faultFrom, firstFault, unless}
-use Rattle.rules.specs.Record.{Argument, argumentOf, argumentFinding, argumentFault, flatOf}
-use Rattle.rules.specs.Building.{isNoScript, eitherLine}
+use Rattle.rules.specs.Record.{Argument, argumentOf, argumentFinding}
+use Rattle.rules.specs.Building.{isNoScript}
 use Rattle.rules.specs.Answer.{refusal, refusalSaid, wrote, builtSaid, Answered}
 use Rattle.laws.specs.Answer.{refusalOf, refusal-back, some-number}
 use Rattle.laws.specs.Store.{sets-append, sets-front}
 use Rattle.laws.specs.Placed.{Left, less-left}
 use Rattle.names.specs.Name.{nameOf, headOf}
 use Rattle.building.specs.declared.styles.Style.{Style}
-use Rattle.records.specs.declared.Verdict.{Verdict}
-use Rattle.records.specs.declared.Verdict.the-variants.{Sound, Wrong}
 use Rattle.building.specs.declared.works.Pass.{Pass}
 use Rattle.building.specs.declared.works.Pass.the-variants.{Records, Units, Measure, Write}
 use Rattle.building.specs.declared.works.Progress.{Progress}
 use Rattle.building.specs.declared.works.Progress.the-variants.{On, Stopped}
 use Rattle.building.specs.declared.works.Work.{Work}
 use Rattle.building.specs.Limits.{limitOf, countCap, counted, cap-covers}
-use Rattle.records.specs.Records.{isWrong, noArg, recordsOf, verdictFault}
-use Rattle.building.specs.Line.{endOf, frameUnits, rowOf, wholeLine, breaksLine, unitsFinding, lineLimited, lineNamed, lineOutcome}
+use Rattle.records.specs.Records.{isWrong, noArg}
+use Rattle.building.specs.Line.{endOf, frameUnits, rowOf, wholeLine, breaksLine, unitsFinding, lineLimited, lineNamed}
 use Rattle.building.specs.Passes.{mostUnits, stored, piece, passed, passedOut}
-use Rattle.building.specs.Works.{begunAt, begun, answerOf, entered, stopped, progressed, opened, openedOut, ended, closedIn, closedOut, Turned}
-use Rattle.records.specs.Flat.{whole-count, flat-records, flat-back, faults-whole}
-use Rattle.building.specs.Both.{either-is}
+use Rattle.building.specs.Works.{answerOf, entered, stopped, progressed, opened, openedOut, ended, closedIn, closedOut, Turned}
+use Rattle.building.specs.Counts.{counted-below, counted-whole, counted-twice, counted-most, counted-none, counted-sum, counted-past, counted-is, ended-is}
 use Rattle.building.specs.Rows.{mostOf, row-most, whole-length}
-
--- ---- counts
-
--- below the cap a count is the sum
-pub counted-below : (units m : ℕ) → units + m < countCap → counted units m ≡ units + m
-unfolding counted
-counted-below units m h = omega arith
-
--- what is below the cap has been counted whole
-counted-whole : (units m : ℕ) → counted units m < countCap → (counted units m ≡ units + m) × (units < countCap)
-unfolding counted
-counted-whole units m h = (omega arith, omega arith)
-
--- one count behind another
-counted-twice : (units m n : ℕ) → counted (counted units m) n ≡ counted units (m + n)
-unfolding counted
-counted-twice units m n = omega arith
-
--- no count passes the cap
-counted-most : (units m : ℕ) → counted units m ≤ countCap
-unfolding counted
-counted-most units m = omega arith
-
--- a count of nothing more, within the cap
-counted-none : (units : ℕ) → units ≤ countCap → counted units 0 ≡ units
-unfolding counted
-counted-none units h = omega arith
-
--- of one sum the count is one
-counted-sum : (m n k : ℕ) → m + n ≡ k → counted m n ≡ counted 0 k
-unfolding counted
-counted-sum m n k e = omega arith
-
--- a count that is past a number was of more than that number
-counted-past : (m n k : ℕ) → k ≡ counted 0 n → m < k → m < n
-unfolding counted
-counted-past m n k e h = omega arith
-
--- a count that is at most a number below the cap was of so many
-counted-is : (m n k : ℕ) → k ≡ counted 0 n → k ≤ m → m < countCap → k ≡ n
-unfolding counted
-counted-is m n k e h g = omega arith
-
--- a line ends with its end
-ended-is : (batch : Bool) (units : ℕ) → units + length (endOf batch) < countCap → ended batch units ≡ units + length (endOf batch)
-ended-is true units h = counted-below units 1 h
-ended-is false units h = sym (add-zero units)
 
 module _ (o : Outcome (List ℕ)) (lent text : List ℕ) (all : List Arg) (first : List ℕ) where
   -- ---- what is owed at a record of a pass, where `left` are the records that it has not taken
@@ -138,7 +88,7 @@ module _ (o : Outcome (List ℕ)) (lent text : List ℕ) (all : List Arg) (first
     pub due : pick (w .going) (Owes (w .pass) (w .style) (w .at + 1) (drop (w .at) all) (w .units) out) (Answered o (builtSaid (answerOf w)) first out)
 
   -- a refusal is answered, and nothing has changed
-  refused-here : (r : Refusal) {number place : ℕ} {out : List ℕ} → refusalSaid r ≡ refusal number place → o ≡ refused number place → out ≡ first
+  pub refused-here : (r : Refusal) {number place : ℕ} {out : List ℕ} → refusalSaid r ≡ refusal number place → o ≡ refused number place → out ≡ first
       → Answered o (refusalSaid r) first out
   refused-here r said e kept = record { says = rw e said; leaves = rw e kept }
 
@@ -422,27 +372,3 @@ module _ (o : Outcome (List ℕ)) (lent text : List ℕ) (all : List Arg) (first
   -- behind the last turn building has answered
   pub stands-last : {w : Work} {out : List ℕ} → Stands w out → w .going ≡ false → Answered o (builtSaid (answerOf w)) first out
   stands-last s g = rw g at (s .due)
-
--- ---- before the first turn
-
--- the records are judged already
-pub stands-judged : (batch force : Bool) (lent records text out : List ℕ) (v : Verdict) → verdictFault v ≡ argumentFault text records
-    → Stands (eitherLine batch force lent records text (length out)) lent text (recordsOf records) out (begun batch force (length records / 3) v) out
-unfolding lineOutcome faultFrom refusalOf
-stands-judged batch force lent records text out Sound e =
-    let is = either-is batch force lent records text (length out) in
-    let n = whole-count records in
-    let none : drop (length records / 3) (recordsOf records) ≡ [] = drop-of-length-le (recordsOf records) {i = length records / 3} (omega arith) in
-    record { counts = sym n; within = omega arith; due = record { owes = rw none (is ∙ rw (← e)); kept = refl } }
-stands-judged batch force lent records text out (Wrong place) e =
-    let is = either-is batch force lent records text (length out) in
-    let n = whole-count records in
-    record { counts = sym n; within = omega arith; due = refused-here _ lent text (recordsOf records) out (Refusal.Record place) refl (is ∙ rw (← e)) refl }
-
--- the records are given as they are
-pub stands-begun : (batch force : Bool) (lent : List ℕ) (args : List Arg) (text out : List ℕ)
-    → Stands (eitherLine batch force lent (flatOf args) text (length out)) lent text args out (begunAt batch force (length args) 0) out
-unfolding lineOutcome argumentFault
-stands-begun batch force lent args text out =
-    let is = either-is batch force lent (flatOf args) text (length out) in
-    record { counts = refl; within = omega arith; due = record { owes = is ∙ rw (flat-back args, flat-records args, faults-whole (argumentFinding text) 1 args); kept = refl } }

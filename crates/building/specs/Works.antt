@@ -125,7 +125,7 @@ pub record Staged (work : Work) (output : List ℕ) (r : Work) (after : List ℕ
 -- ---- a turn
 
 -- what taking a record promises
-pub record Taken (text : List ℕ) (a : Arg) (w r : Work) (before after : List ℕ) : Type 0 where
+pub record TakenRecord (text : List ℕ) (a : Arg) (w r : Work) (before after : List ℕ) : Type 0 where
   pub works : r ≡ progressed w (passed (w .pass) (w .style) text (w .units) (w .at + 1) a)
   pub stores : after ≡ passedOut (w .pass) (w .style) text (w .units) a before
 

@@ -3,7 +3,7 @@ ghost use mathlib.Core.Path.{_≡_};
 ghost use Prim.Native.Nat.{_<_};
 ghost use Rattle.units.specs.Table.{classTable};
 ghost use Rattle.building.specs.Passes.{recordJudged, lentUnits};
-ghost use Rattle.building.specs.Works.{Taken, Closed, Turned};
+ghost use Rattle.building.specs.Works.{TakenRecord, Closed, Turned};
 use crate::judging;
 use crate::stages;
 use crate::works;
@@ -39,7 +39,7 @@ fn lent_units(pass: Pass, room: usize) -> usize
 // The next record of the pass.
 fn take(work: Work, arg: Arg, classes: &[u8; 256], text: &[u16], out: &mut [u16]) -> Work
     requires { ⌜ (now classes ≡ classTable) × (work .at < work .count) ⌝ }
-    ensures { λ r. ⌜ Taken (now (text .entry)) arg work r (now (out .entry)) (now (out .exit)) ⌝ }
+    ensures { λ r. ⌜ TakenRecord (now (text .entry)) arg work r (now (out .entry)) (now (out .exit)) ⌝ }
 {
     let style = work.style;
     let pass = work.pass;

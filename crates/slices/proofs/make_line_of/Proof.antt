@@ -71,7 +71,8 @@ use Rattle.units.proofs.classes.classes.Met as cls-thm
 use Rattle.building.specs.declared.works.Work.{Work}
 use Rattle.records.specs.Records.{noArg}
 use Rattle.building.specs.Works.{begunAt, answerOf, Turned}
-use Rattle.building.specs.Turns.{Stands, turnsLeft, turns as turned-on, stands-begun, stands-last}
+use Rattle.building.specs.Starts.{stands-begun}
+use Rattle.building.specs.Turns.{Stands, turnsLeft, turns as turned-on, stands-last}
 use Rattle.slices.proofs.Shapes.{unitsTy, argsTy, outTy, outPtr, arrayTy, arrayPtr, built-typed, array-lies, array-leaves}
 use Rattle.building.proofs.works.Work as S
 use Rattle.building.proofs.works.Work.Laws as S′

@@ -4,7 +4,8 @@ use mathlib.Core.Path.{_≡_, refl}
 use lib.ListN.{length}
 use Rattle.rules.specs.Building.{eitherLine}
 use Rattle.records.specs.Records.{recordsOf}
-use Rattle.building.specs.Turns.{Stands, stands-judged, stands-last, turns, turnsLeft}
+use Rattle.building.specs.Starts.{stands-judged}
+use Rattle.building.specs.Turns.{Stands, stands-last, turns, turnsLeft}
 use Rattle.building.proofs.lines.build.Statement.{statement}
 use Rattle.building.proofs.lines.build.Tie as tie
 
