@@ -24,7 +24,7 @@ VARIANTS = [
        '    if unit == 92 {\n        stores::put(out, spot.to, 92);\n        stores::put(out, spot.to + 1, 92);\n        return Spot { to: spot.to + 2, k: 0 };\n    }\n'
        '    stores::put(out, spot.to, unit);\n')]),
     ('a quote mark of a batch argument escaped with a backslash', 'quoting/src/escapes.rt', [('if batch { 34 } else { 92 }', 'if batch { 92 } else { 92 }')]),
-    ('NUL tested before CR in a batch argument', 'building/src/judging.rt',
+    ('NUL tested before CR in a batch argument', 'adding/src/judging.rt',
      [('    if breaks {\n', '    if nul {\n        return Progress::Stopped(Refusal::Nul(place));\n    }\n    if breaks {\n')]),
     ('units written before a later argument is refused', 'building/src/turns.rt',
      [('            let judged =', '            let early = writing::add_argument(classes, out, units, text, arg, style);\n            let judged =')]),

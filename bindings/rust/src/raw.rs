@@ -83,7 +83,7 @@ fn written(room: usize, write: impl FnOnce(*mut u16, &mut [u64; 4]) -> u32) -> R
 
 // SAFETY of every call below. Slices, arrays and room are valid for their lengths, their pointers are never null, and none that is written overlaps
 // another: that is all that the functions ask; any content may be lent, by their contracts, which have no `requires`. Room is lent uninitialised: the
-// functions store initialised units and numbers there and load none (all their stores are those of crates/units/src/stores.rt), and by the contracts no
+// functions store initialised units and numbers there and load none (all their stores are those of crates/stores/src/lib.rt), and by the contracts no
 // answer depends on what an output held.
 
 pub fn parse_lp_cmd_line(line: &[u16], exe_name: &[u16], units: usize, numbers: usize) -> Result<(Vec<u16>, Vec<u32>), Refusal> {

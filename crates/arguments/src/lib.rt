@@ -6,7 +6,7 @@ ghost use mathlib.Core.Bool.{false};
 ghost use Rattle.arguments.specs.Next.{firstArgument, laterArgument, OneRead};
 use steps::Point;
 use steps::read_step;
-use units::stores::copy_run;
+use stores::copy_run;
 
 // How many units of the line an argument takes, with the blank that ends it, and how many it has.
 pub struct Took {

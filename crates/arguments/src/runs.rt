@@ -5,8 +5,8 @@ ghost use Rattle.rules.specs.Unit.{isQuote};
 ghost use Rattle.laws.specs.Scan.{leading};
 ghost use Rattle.laws.specs.Run.{startsWith};
 ghost use Rattle.arguments.specs.Run.{isEnd, isKept, isTaken};
-use units::scans::find_any;
-use units::scans::is_blank;
+use scans::find_any;
+use scans::is_blank;
 
 // Whether a unit ends an argument: a blank outside quotes.
 pub fn is_end(unit: u16, quoted: bool) -> bool

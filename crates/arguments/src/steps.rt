@@ -6,10 +6,10 @@ ghost use lib.ListN.{length, drop};
 ghost use Rattle.arguments.specs.Step.{Stepped, markStep, slashesAt, stepAt};
 use super::runs::plain_run;
 use super::runs::starts_with_quote;
-use units::scans::backslashes;
-use units::stores::copy_run;
-use units::stores::put;
-use units::stores::repeat;
+use scans::backslashes;
+use stores::copy_run;
+use stores::put;
+use stores::repeat;
 
 // Where a reader stands: how many units of the rest are used, how many of the argument are written, and whether quoted mode is on.
 pub struct Point {

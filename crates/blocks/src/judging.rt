@@ -9,7 +9,6 @@ ghost use Rattle.blocks.specs.Entries.{ruled, isOutside, hasNul, placed}
 use crate::records;
 use crate::records::EntryRecord;
 use units::parts;
-use units::scans;
 
 // Whether start plus length exceeds a text's length. Both are widened first, so that their sum cannot wrap.
 fn exceeds(units: usize, start: u32, len: u32) -> bool

@@ -7,9 +7,9 @@ ghost use Rattle.rules.specs.Block.{blockLimit};
 ghost use Rattle.blocks.specs.Entries.{ruled, oneEntry, Written, untilPast, blockUntilPast};
 use crate::records;
 use crate::records::EntryRecord;
+use stores::copy_run;
+use stores::put;
 use units::parts;
-use units::stores::copy_run;
-use units::stores::put;
 
 // The most units of a block.
 pub const BLOCK_LIMIT: usize = 65535;

@@ -13,12 +13,13 @@ use Rattle.rules.specs.declared.Arg.{Arg}
 use Rattle.rules.specs.Choice.{pick}
 use Rattle.rules.specs.Record.{argumentOf}
 use Rattle.laws.specs.Store.{sets-out}
+use Rattle.adding.specs.declared.judging.Progress.the-variants.{On}
+use Rattle.adding.specs.Added.{stored, Added, piece}
 use Rattle.building.specs.declared.works.Pass.{Pass}
 use Rattle.building.specs.declared.works.Pass.the-variants.{Records, Units, Measure, Write}
-use Rattle.building.specs.declared.works.Progress.the-variants.{On}
 use Rattle.building.specs.declared.works.Work.{Work}
 use Rattle.building.specs.Line.{endOf}
-use Rattle.building.specs.Passes.{stored, Added, piece, lentUnits, passed, passedOut}
+use Rattle.building.specs.Passes.{lentUnits, passed, passedOut}
 use Rattle.building.specs.Works.{progressed, finished, ended, afterWriting, afterWritingOut, Staged, TakenRecord, closedIn, closedOut, Closed}
 use Rattle.building.proofs.works.Pass as P
 

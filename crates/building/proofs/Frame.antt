@@ -8,7 +8,7 @@ use lib.ListN.{length, length-append}
 use Rattle.rules.specs.Unit.{units}
 use Rattle.rules.specs.Building.{batchFront}
 use Rattle.names.specs.Name.{frontOf, headOf}
-use Rattle.building.specs.Limits.{counted}
+use Rattle.adding.specs.Limits.{counted}
 use Rattle.building.specs.Line.{frameUnits}
 
 -- in a batch line 31 units more than the name

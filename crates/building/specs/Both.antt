@@ -9,10 +9,11 @@ use Rattle.rules.specs.Outcome.{refuse, firstFault, unless, limited}
 use Rattle.rules.specs.Record.{Argument, argumentsOf, argumentFault}
 use Rattle.rules.specs.Building.{lineLimit, nulFinding, line, batchLine, commandLine, batchCommandLine, eitherLine}
 use Rattle.names.specs.Name.{nameOf, frontOf, headOf}
-use Rattle.building.specs.declared.styles.Style.{Style}
-use Rattle.building.specs.Limits.{limitOf}
 use Rattle.records.specs.Records.{recordsOf}
-use Rattle.building.specs.Line.{ruleOf, wholeLine, lineLimited, lineNamed, lineOutcome}
+use Rattle.adding.specs.declared.styles.Style.{Style}
+use Rattle.adding.specs.Limits.{limitOf}
+use Rattle.adding.specs.Added.{ruleOf}
+use Rattle.building.specs.Line.{wholeLine, lineLimited, lineNamed, lineOutcome}
 
 -- an ordinary line, its quotes forced or not
 abbrev ordinary : Bool → Style

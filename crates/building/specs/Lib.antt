@@ -1,9 +1,7 @@
-pub mod Limits
 pub mod Line
 pub mod Passes
 pub mod Works
 pub mod Rows
 pub mod Both
-pub mod Counts
 pub mod Turns
 pub mod Starts

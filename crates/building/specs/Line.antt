@@ -5,15 +5,15 @@ use mathlib.Core.List.{List, [], _∷_, _++_, map}
 use lib.ListN.{length}
 use Rattle.rules.specs.declared.Arg.{Arg}
 use Rattle.rules.specs.Choice.{both, any}
-use Rattle.rules.specs.Unit.{isNul, isLineBreak, quote}
+use Rattle.rules.specs.Unit.{isNul, quote}
 use Rattle.rules.specs.Outcome.{Outcome, refuse, Finding, wrongIf, Fault, faultFrom, firstFault, unless, limited}
-use Rattle.rules.specs.Record.{Argument, argumentOf, isRegular}
-use Rattle.rules.specs.Quoting.{form}
-use Rattle.rules.specs.Batch.{batchForm}
+use Rattle.rules.specs.Record.{Argument, argumentOf}
 use Rattle.rules.specs.Building.{tail, nulFinding, isNoScript}
 use Rattle.names.specs.Name.{nameOf, headOf}
-use Rattle.building.specs.declared.styles.Style.{Style}
-use Rattle.building.specs.Limits.{limitOf, counted}
+use Rattle.adding.specs.declared.styles.Style.{Style}
+use Rattle.adding.specs.Limits.{limitOf, counted}
+use Rattle.adding.specs.Judged.{breaksLine}
+use Rattle.adding.specs.Added.{ruleOf}
 
 -- ---- its parts
 
@@ -27,12 +27,6 @@ unfoldable pub frameUnits : Bool → List ℕ → ℕ
 unfolding headOf counted
 frameUnits batch name = counted (length (headOf batch name)) (length (endOf batch))
 
--- the form of a regular argument in either line
-unfoldable pub ruleOf : Bool → Bool → List ℕ → List ℕ
-unfolding form batchForm
-ruleOf true force xs = batchForm force xs
-ruleOf false force xs = form force xs
-
 -- for each argument one space and its form
 abbrev pub rowOf : Style → List Argument → List ℕ
 rowOf s args = tail (ruleOf (s .batch)) (s .force) args
@@ -43,10 +37,6 @@ unfolding headOf ruleOf
 wholeLine s name args = headOf (s .batch) name ++ rowOf s args ++ endOf (s .batch)
 
 -- ---- what building it comes to
-
--- a line break where none may be: in a regular argument of a batch line
-abbrev pub breaksLine : Bool → Argument → Bool
-breaksLine batch a = both batch (both (isRegular (a .kind)) (any isLineBreak (a .content)))
 
 -- 6 and 5 of an argument
 abbrev pub unitsFinding : Bool → Argument → Finding

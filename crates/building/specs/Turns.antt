@@ -1,6 +1,6 @@
 -- What building still owes at any of its turns, and one law for every turn: whoever drives the turns cites it. Assumes nothing.
 use Prim.Native.Nat.{ℕ, _+_, _-_, _*_, _≤_, _<_}
-use native.Mathlib.Nat.{lt-of-not-le, zero-add}
+use native.Mathlib.Nat.{add-zero, lt-of-not-le, zero-add}
 use native.Mathlib.Decide.{decLe}
 use native.Mathlib.Numerals.{add-one}
 use native.Mathlib.Omega.{arith}
@@ -24,19 +24,26 @@ use Rattle.laws.specs.Answer.{refusalOf, refusal-back, some-number}
 use Rattle.laws.specs.Store.{sets-append, sets-front}
 use Rattle.laws.specs.Placed.{Left, less-left}
 use Rattle.names.specs.Name.{nameOf, headOf}
-use Rattle.building.specs.declared.styles.Style.{Style}
+use Rattle.records.specs.Records.{isWrong, noArg}
+use Rattle.adding.specs.declared.styles.Style.{Style}
+use Rattle.adding.specs.declared.judging.Progress.{Progress}
+use Rattle.adding.specs.declared.judging.Progress.the-variants.{On, Stopped}
+use Rattle.adding.specs.Limits.{limitOf, countCap, counted, cap-covers}
+use Rattle.adding.specs.Judged.{breaksLine, mostUnits}
+use Rattle.adding.specs.Added.{stored, piece}
+use Rattle.adding.specs.Counts.{counted-below, counted-whole, counted-twice, counted-most, counted-none, counted-sum, counted-past, counted-is}
 use Rattle.building.specs.declared.works.Pass.{Pass}
 use Rattle.building.specs.declared.works.Pass.the-variants.{Records, Units, Measure, Write}
-use Rattle.building.specs.declared.works.Progress.{Progress}
-use Rattle.building.specs.declared.works.Progress.the-variants.{On, Stopped}
 use Rattle.building.specs.declared.works.Work.{Work}
-use Rattle.building.specs.Limits.{limitOf, countCap, counted, cap-covers}
-use Rattle.records.specs.Records.{isWrong, noArg}
-use Rattle.building.specs.Line.{endOf, frameUnits, rowOf, wholeLine, breaksLine, unitsFinding, lineLimited, lineNamed}
-use Rattle.building.specs.Passes.{mostUnits, stored, piece, passed, passedOut}
+use Rattle.building.specs.Line.{endOf, frameUnits, rowOf, wholeLine, unitsFinding, lineLimited, lineNamed}
+use Rattle.building.specs.Passes.{passed, passedOut}
 use Rattle.building.specs.Works.{answerOf, entered, stopped, progressed, opened, openedOut, ended, closedIn, closedOut, Turned}
-use Rattle.building.specs.Counts.{counted-below, counted-whole, counted-twice, counted-most, counted-none, counted-sum, counted-past, counted-is, ended-is}
 use Rattle.building.specs.Rows.{mostOf, row-most, whole-length}
+
+-- a line ends with its end
+pub ended-is : (batch : Bool) (units : ℕ) → units + length (endOf batch) < countCap → ended batch units ≡ units + length (endOf batch)
+ended-is true units h = counted-below units 1 h
+ended-is false units h = sym (add-zero units)
 
 module _ (o : Outcome (List ℕ)) (lent text : List ℕ) (all : List Arg) (first : List ℕ) where
   -- ---- what is owed at a record of a pass, where `left` are the records that it has not taken

@@ -16,15 +16,15 @@ use Rattle.rules.specs.Choice.{pick, both, any}
 use Rattle.rules.specs.Unit.{isNul}
 use Rattle.rules.specs.Building.{isNoScript}
 use Rattle.laws.specs.Answer.{refusalOf}
+use Rattle.names.specs.Name.{nameOf, headOf}
 use Rattle.records.specs.declared.Verdict.{Verdict}
 use Rattle.records.specs.declared.Verdict.the-variants.{Sound, Wrong}
-use Rattle.names.specs.Name.{nameOf, headOf}
+use Rattle.adding.specs.declared.judging.Progress.{Progress}
+use Rattle.adding.specs.declared.judging.Progress.the-variants.{On, Stopped}
+use Rattle.adding.specs.Limits.{limitOf, counted}
 use Rattle.building.specs.declared.works.Pass.{Pass}
 use Rattle.building.specs.declared.works.Pass.the-variants.{Records, Units, Measure, Write}
-use Rattle.building.specs.declared.works.Progress.{Progress}
-use Rattle.building.specs.declared.works.Progress.the-variants.{On, Stopped}
 use Rattle.building.specs.declared.works.Work.{Work}
-use Rattle.building.specs.Limits.{limitOf, counted}
 use Rattle.building.specs.Line.{endOf, frameUnits}
 use Rattle.building.specs.Passes.{passed, passedOut}
 

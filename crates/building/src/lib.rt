@@ -4,14 +4,10 @@ ghost use Rattle.rules.specs.Answer.{Answered, builtSaid};
 ghost use Rattle.rules.specs.Building.{commandLine, batchCommandLine};
 use rules::Built;
 
-mod judging;
-mod limits;
-mod lines;
+pub mod lines;
 mod stages;
-pub mod styles;
 pub mod turns;
 pub mod works;
-mod writing;
 
 // Builds an ordinary command line from records, three numbers each: kind, start and length in the text. In the Rust: `make_command_line`.
 pub fn make_command_line(

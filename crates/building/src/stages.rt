@@ -1,14 +1,23 @@
 // The stages of building a line, one behind each pass over the records: what is judged there, what is stored, and which pass comes next.
 ghost use mathlib.Core.Path.{_≡_};
 ghost use lib.ListN.{length};
+ghost use Rattle.building.specs.Line.{frameUnits};
 ghost use Rattle.building.specs.Works.{afterRecords, Staged, surelyFits, afterUnits, afterUnitsOut, afterMeasuring, afterMeasuringOut, opened, openedOut, afterWriting, afterWritingOut};
-use crate::limits;
 use crate::works;
 use crate::works::Pass;
 use crate::works::Work;
+use adding::limits;
 use rules::Refusal;
-use units::scans;
-use units::stores;
+
+// How many units stand round the arguments: before them, and behind them the last quote of a batch line.
+fn frame_units(batch: bool, name: &[u16]) -> usize
+    ensures { λ r. ⌜ r ≡ frameUnits batch (now (name .entry)) ⌝ }
+{
+    if batch {
+        return limits::count_on(name.len(), 31);
+    }
+    limits::count_on(name.len(), 2)
+}
 
 // Behind the record pass: 7, then 5 for program or script. The next one begins with what stands round the arguments.
 pub fn after_records(work: Work, lent: &[u16]) -> Work
@@ -22,7 +31,7 @@ pub fn after_records(work: Work, lent: &[u16]) -> Work
     if scans::has_nul(name) {
         return works::stop(work, Refusal::Nul(0));
     }
-    works::enter(work, Pass::Units, limits::frame_units(style.batch, name))
+    works::enter(work, Pass::Units, frame_units(style.batch, name))
 }
 
 // Into writing: what stands before the arguments. Nothing is stored before this.
@@ -53,7 +62,7 @@ pub fn after_units(work: Work, lent: &[u16], out: &mut [u16]) -> Work
         return open(work, lent, out);
     }
     let name = names::name_of(style.batch, lent);
-    works::enter(work, Pass::Measure, limits::frame_units(style.batch, name))
+    works::enter(work, Pass::Measure, frame_units(style.batch, name))
 }
 
 // Behind measuring: 2, then 4, both on the whole line.

@@ -2,27 +2,16 @@
 ghost use mathlib.Core.Path.{_≡_};
 ghost use Prim.Native.Nat.{_<_};
 ghost use Rattle.units.specs.Table.{classTable};
-ghost use Rattle.building.specs.Passes.{recordJudged, lentUnits};
+ghost use Rattle.building.specs.Passes.{lentUnits};
 ghost use Rattle.building.specs.Works.{TakenRecord, Closed, Turned};
-use crate::judging;
 use crate::stages;
 use crate::works;
 use crate::works::Pass;
-use crate::works::Progress;
 use crate::works::Work;
-use crate::writing;
+use adding::judging;
+use adding::judging::Progress;
+use adding::writing;
 use rules::Arg;
-use rules::Refusal;
-
-// The record pass: 1.
-fn judge_record(text: &[u16], units: usize, place: usize, arg: Arg) -> Progress
-    ensures { λ r. ⌜ r ≡ recordJudged (now (text .entry)) units place arg ⌝ }
-{
-    if records::is_wrong(text, arg) {
-        return Progress::Stopped(Refusal::Record(place));
-    }
-    Progress::On(units)
-}
 
 // How much of an output of so many units a pass is lent: measuring is lent nothing.
 fn lent_units(pass: Pass, room: usize) -> usize
@@ -46,7 +35,7 @@ fn take(work: Work, arg: Arg, classes: &[u8; 256], text: &[u16], out: &mut [u16]
     let units = work.units;
     let place = work.at + 1;
     match pass {
-        Pass::Records => works::go_on(work, judge_record(text, units, place, arg)),
+        Pass::Records => works::go_on(work, judging::judge_record(text, units, place, arg)),
         Pass::Units => {
             let judged = judging::judge_units(style.batch, text, units, place, arg);
             works::go_on(work, judged)

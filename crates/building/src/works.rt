@@ -2,7 +2,8 @@
 ghost use mathlib.Core.Path.{_≡_};
 ghost use Prim.Native.Nat.{_<_};
 ghost use Rattle.building.specs.Works.{begun, begunAt, entered, stopped, finished, progressed, answerOf};
-use crate::styles::Style;
+use adding::judging::Progress;
+use adding::styles::Style;
 use records::Verdict;
 use rules::Built;
 use rules::Refusal;
@@ -14,12 +15,6 @@ pub enum Pass {
     Units,
     Measure,
     Write,
-}
-
-// What a record makes of the units so far: so many now, or a refusal.
-pub enum Progress {
-    On(usize),
-    Stopped(Refusal),
 }
 
 // Where building stands: the pass, the units that it has counted, how many records it has taken; and, once it does not go on, the units of the line or

@@ -1,5 +1,4 @@
-// A tool's side of a terminal: the words of its call, gathered into one text with a record for each, and what it says.
-pub mod gathering;
+// What a tool says, and the arrays that it works on.
 pub mod messages;
 pub mod reports;
 pub mod room;

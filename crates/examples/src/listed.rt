@@ -1,8 +1,8 @@
 // Lines that the entries over a slice of records build, printed: an ordinary line, a batch line, and two refusals.
-use super::pages::put_units;
-use super::pages::say;
 use libc::STDOUT_FILENO;
 use octets::widen;
+use pages::put_units;
+use pages::say;
 use rules::Arg;
 use rules::Built;
 use rules::Refusal;

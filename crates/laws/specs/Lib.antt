@@ -6,6 +6,8 @@ pub mod Digits
 pub mod Scan
 pub mod Class
 pub mod Choice
+pub mod None
+pub mod Empty
 pub mod Kind
 pub mod Limit
 pub mod Nul

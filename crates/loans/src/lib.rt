@@ -4,6 +4,10 @@ ghost use Prim.Native.Nat.{min};
 ghost use lib.ListN.{length};
 ghost use lib.Seq.{sets};
 use blocks::make_envp;
+use fields::values::number_at;
+use fields::values::rest_from;
+use fields::values::text_at;
+use fields::values::wide_at;
 use reading::parse_lp_cmd_line;
 use replies::answers::Answer;
 use replies::answers::Word;
@@ -17,12 +21,8 @@ use sayings::of_filled;
 use sayings::of_parsed;
 use sayings::with_numbers;
 use status::status_text;
+use stores::copy_run;
 use units::parts::smaller;
-use units::stores::copy_run;
-use words::values::number_at;
-use words::values::rest_from;
-use words::values::text_at;
-use words::values::wide_at;
 
 // Copies what is lent as the output to its front, names it as the table's first text, and says how many units it has.
 fn lend(out: &mut [u16], spans: &mut [u32], units: &[u16]) -> usize

@@ -5,8 +5,6 @@ ghost use Rattle.rules.specs.Building.{isNoScript, scriptOf};
 ghost use Rattle.laws.specs.Placed.{Appended};
 ghost use Rattle.rules.specs.Suffix.{hasBatchSuffix};
 ghost use Rattle.names.specs.Name.{nameOf, frontOf, headOf};
-use units::scans;
-use units::stores;
 
 mod suffix;
 

@@ -16,7 +16,7 @@ use Rattle.laws.specs.Any.{part-length}
 use Rattle.laws.specs.Scan.{trailingFrom}
 use Rattle.quoting.specs.Emitted.{isMark, isAllPlain, PlainFront, stretch, slashesBehind, emitted, edge, formed}
 use Rattle.laws.specs.Last.{last-unit}
-use Rattle.quoting.proofs.Deciding.{filled}
+use Rattle.laws.specs.Empty.{filled}
 use Rattle.quoting.proofs.Emitting.{stretch-append, behind-append, stretch-itself, none-behind}
 
 -- both tests of plain units fail

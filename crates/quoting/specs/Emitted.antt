@@ -5,8 +5,8 @@ use mathlib.Core.Bool.{Bool}
 use mathlib.Core.List.{List, [], _∷_, _++_}
 use lib.Dec.{eqb}
 use lib.ListN.{length, take}
-use Rattle.rules.specs.Choice.{pick, either, both, flip, any}
-use Rattle.rules.specs.Unit.{units, isBackslash, isQuote, isBlank, isForcing, quote, percent, backslash}
+use Rattle.rules.specs.Choice.{pick, both, flip, any}
+use Rattle.rules.specs.Unit.{units, isBackslash, isQuote, quote, percent, backslash}
 use Rattle.rules.specs.Quoting.{slashes}
 use Rattle.rules.specs.Batch.{endsInBackslash}
 use Rattle.laws.specs.Placed.{Placed}
@@ -80,13 +80,3 @@ pub record PlainFront (batch : Bool) (xs : List ℕ) (n : ℕ) : Type 0 where
   pub inside : n ≤ length xs
   pub itself : (k : ℕ) → stretch batch k (take n xs) ≡ take n xs
   pub leaves : (k : ℕ) → slashesBehind k (take n xs) ≡ pick (eqb n 0) k 0
-
--- ---- whether there are quotes
-
--- whether a unit settles that quotes are needed: a blank, in a batch argument any forcing unit
-abbrev pub isSettling : Bool → ℕ → Bool
-isSettling batch x = pick batch (isForcing x) (isBlank x)
-
--- the same by the unit's class: class 3, in a batch argument all classes but 0 and 5
-abbrev pub settlesBy : Bool → ℕ → Bool
-settlesBy batch class = pick batch (flip (either (eqb class 0) (eqb class 5))) (eqb class 3)

@@ -8,9 +8,8 @@ ghost use Rattle.rules.specs.Choice.{pick};
 ghost use Rattle.rules.specs.Quoting.{slashes};
 ghost use Rattle.laws.specs.Placed.{Appended, Placed};
 ghost use Rattle.quoting.specs.Emitted.{markFor, countOn, stretch, edge, formed, Emits};
-use crate::scans;
+use crate::marks;
 use units::parts;
-use units::stores;
 
 // How a regular argument is written.
 pub struct Shape {
@@ -69,7 +68,7 @@ fn put_unit(out: &mut [u16], spot: Spot, unit: u16, batch: bool) -> Spot
     requires { ⌜ (spot .to + length (stretch batch (spot .k) (unit ∷ [])) < 2 ^ 64) × (spot .k + 1 < 2 ^ 64) ⌝ }
     ensures { λ r. ⌜ Emits batch (spot .k) (unit ∷ []) (spot .to) (r .to) (r .k) (now (out .entry)) (now (out .exit)) ⌝ }
 {
-    if scans::is_mark(unit, batch) {
+    if marks::is_mark(unit, batch) {
         let to = put_mark(out, spot.to, unit, spot.k, batch);
         return Spot { to, k: 0 };
     }
@@ -111,7 +110,7 @@ fn put_content(out: &mut [u16], at: usize, arg: &[u16], batch: bool) -> Spot
     let mut i = 0;
     while i < arg.len() {
         let rest = &arg[i..];
-        let n = scans::plain_eights(rest, batch);
+        let n = marks::plain_eights(rest, batch);
         stores::copy_run(out, spot.to, &rest[..n]);
         let end = parts::smaller(n + 16, rest.len());
         let next = Spot {

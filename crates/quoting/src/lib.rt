@@ -9,11 +9,9 @@ ghost use Rattle.units.specs.Table.{classTable};
 ghost use Rattle.laws.specs.Placed.{Appended};
 use escapes::Shape;
 use units::kinds;
-use units::stores;
 
-pub mod decisions;
 mod escapes;
-pub mod scans;
+pub mod marks;
 
 // The units of a raw argument, at the front of what is lent.
 fn put_raw(out: &mut [u16], arg: &[u16]) -> usize
@@ -36,7 +34,7 @@ pub fn append_arg(
 {
     if kinds::is_regular(kind) {
         let quoted = decisions::needs_quotes(classes, arg, force_quotes);
-        if scans::is_plain(arg, false) {
+        if marks::is_plain(arg, false) {
             return escapes::put_plain(out, arg, quoted);
         }
         return escapes::put_form(
@@ -64,7 +62,7 @@ pub fn append_bat_arg(
 {
     if kinds::is_regular(kind) {
         let quoted = decisions::needs_batch_quotes(classes, arg, force_quotes);
-        if scans::is_plain(arg, true) {
+        if marks::is_plain(arg, true) {
             return escapes::put_plain(out, arg, quoted);
         }
         return escapes::put_form(

@@ -10,10 +10,10 @@ ghost use Rattle.laws.specs.Scan.{leading};
 ghost use Rattle.reading.specs.Laid.{Laid, lineArguments};
 use arguments::read_first;
 use arguments::read_later;
+use scans::blanks;
+use stores::copy_run;
+use stores::put_number;
 use units::parts::smaller;
-use units::scans::blanks;
-use units::stores::copy_run;
-use units::stores::put_number;
 
 // How many arguments a line has, and how many units their texts.
 pub struct Sizes {

@@ -14,7 +14,7 @@ ghost use Rattle.reading.specs.Span.{argumentSpan};
 use laying::lay_line;
 use rules::Parsed;
 use rules::Refusal;
-use units::scans::find_nul;
+use scans::find_nul;
 
 // The most units of a line that is read.
 const READ_LIMIT: usize = 32767;

@@ -8,6 +8,9 @@ ghost use Rattle.rules.specs.Building.{eitherLine};
 ghost use Rattle.rules.specs.Block.{environmentBlock};
 ghost use Rattle.sayings.specs.Told.{Tells, textTold};
 use blocks::make_envp;
+use fields::values::number_at;
+use fields::values::rest_from;
+use fields::values::text_at;
 use names::has_bat_extension;
 use reading::parse_lp_cmd_line;
 use replies::answers::Answer;
@@ -23,10 +26,7 @@ use sayings::texts_told;
 use sayings::with_numbers;
 use status::code;
 use status::status_text;
-use units::stores::put_number;
-use words::values::number_at;
-use words::values::rest_from;
-use words::values::text_at;
+use stores::put_number;
 
 // `read EXE LINE`
 pub fn read(text: &[u16], numbers: &[u32], out: &mut [u16], spans: &mut [u32]) -> Answer {

@@ -14,10 +14,10 @@ use rules::Built;
 use rules::Filled;
 use rules::Parsed;
 use rules::Refusal;
+use stores::put_number;
 use units::parts::smaller;
 use units::refusals::number_of;
 use units::refusals::place_of;
-use units::stores::put_number;
 
 pub mod either;
 

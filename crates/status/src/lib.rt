@@ -8,7 +8,7 @@ ghost use Rattle.rules.specs.Status.{glyph, statusOutcome, signedCode};
 ghost use Rattle.status.specs.Text.{DigitsLaid, fitted};
 use rules::Filled;
 use rules::Refusal;
-use units::stores::copy_run;
+use stores::copy_run;
 
 // What stands in front of a decimal number: `exit code: `.
 const DECIMAL_FRONT: [u16; 11] = [101, 120, 105, 116, 32, 99, 111, 100, 101, 58, 32];

@@ -10,6 +10,7 @@ use lib.Seq.{drop-cons}
 use borrow.Author.Tests.{lt-ltb, le-ltb}
 use Rattle.rules.specs.Choice.{either, any, isEmpty}
 use Rattle.rules.specs.Unit.{isDigit}
+use Rattle.laws.specs.Empty.{filled}
 use Rattle.terminal.specs.declared.numbers.Number.{Number}
 use Rattle.terminal.specs.declared.numbers.Number.the-variants as Number
 use Rattle.terminal.specs.Number.{decimalFrom, largest, isNoDigit, isNoNumber, numberOf}
@@ -87,9 +88,5 @@ module _ {word : List ℕ} where
         let e : drop i word ≡ [] = drop-of-length-le word {i = i} l in
         let d : any isNoDigit word ≡ false = rw e at (c .digits) in
         let v : decimalFrom 0 word ≡ value = rw e at (c .stands) in
-        let m : isEmpty word ≡ false = some word n in
+        let m : isEmpty word ≡ false = filled word n in
         rw (m, d, v, le-ltb largest value s)
-      where
-        some : (xs : List ℕ) → (length xs ≡ 0 → ⊥) → isEmpty xs ≡ false
-        some [] h = absurd (h refl)
-        some (x ∷ xs) h = refl

@@ -5,7 +5,7 @@ ghost use Rattle.rules.specs.Unit.{within};
 ghost use lib.ListN.{length};
 ghost use Rattle.laws.specs.Placed.{Placed};
 ghost use Rattle.terminal.specs.Utf8.{leadOf, areTails, isWhole, valueOf, scalarOf, unitsOf, Decoded};
-use units::stores::put;
+use stores::put;
 
 // A row of the table, for a first byte: how many bytes the sequence has, 0 where none begins so, and the range of its second byte.
 pub struct Lead {

@@ -3,7 +3,7 @@ ghost use mathlib.Core.Path.{_≡_};
 ghost use Rattle.laws.specs.Scan.{before};
 ghost use Rattle.terminal.specs.Word.{isEquals, smallCommandOf, commandOf, isForce, keyLength, Spanned};
 use octets::same;
-use units::stores::put_number;
+use stores::put_number;
 
 // What a call asks for.
 pub enum Command {

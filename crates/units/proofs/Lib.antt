@@ -1,3 +1,1 @@
-pub mod Clip
 pub mod Table
-pub mod None

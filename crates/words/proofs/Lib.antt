@@ -1,2 +1,2 @@
-pub mod Holding
+pub mod Pairs
 pub mod Lining

@@ -18,11 +18,11 @@ use Rattle.laws.specs.Scan.{leading, before, leading-in}
 use Rattle.laws.specs.Equal.{equal}
 use Rattle.forms.specs.Text.{ill}
 use Rattle.words.specs.Word.{onto, wordsOf, wordsAt}
-use Rattle.words.specs.Field.{heldIn, Grew}
+use Rattle.fields.specs.Field.{heldIn, Grew}
 use Rattle.words.specs.Shape.{shapeAt, shapeOn}
 use Rattle.words.specs.Line.{wordsBy, none, verbIn, lettersIn, rowOf, lineOn, Ends, Took, Lined}
-use Rattle.words.specs.declared.fields.Held.{Held}
-use Rattle.words.specs.declared.fields.Holding.the-variants as Holding
+use Rattle.fields.specs.declared.taking.Held.{Held}
+use Rattle.fields.specs.declared.taking.Holding.the-variants as Holding
 use Rattle.words.specs.declared.lines.Line.the-variants as Line
 
 -- ---- where a word ends

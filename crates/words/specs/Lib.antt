@@ -1,4 +1,3 @@
 pub mod Word
-pub mod Field
 pub mod Shape
 pub mod Line

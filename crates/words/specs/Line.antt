@@ -9,10 +9,10 @@ use Rattle.rules.specs.Record.{part}
 use Rattle.laws.specs.Equal.{equal}
 use Rattle.forms.specs.Text.{Taken, taken, ill}
 use Rattle.words.specs.Word.{wordsOf, wordsAt}
-use Rattle.words.specs.Field.{Flat, follow, heldIn, holdingSaid}
+use Rattle.fields.specs.Field.{Flat, follow, heldIn, holdingSaid}
 use Rattle.words.specs.Shape.{shapeAt, shapeOn}
-use Rattle.words.specs.declared.fields.Holding.{Holding}
-use Rattle.words.specs.declared.fields.Holding.the-variants as Holding
+use Rattle.fields.specs.declared.taking.Holding.{Holding}
+use Rattle.fields.specs.declared.taking.Holding.the-variants as Holding
 use Rattle.words.specs.declared.lines.Line.{Line}
 use Rattle.words.specs.declared.lines.Line.the-variants as Line
 

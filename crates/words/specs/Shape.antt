@@ -7,8 +7,8 @@ use lib.ListN.{length, getD, take, drop}
 use Rattle.rules.specs.Choice.{pick}
 use Rattle.laws.specs.Scan.{leading, before}
 use Rattle.forms.specs.Text.{Taken, ill}
-use Rattle.words.specs.Field.{Flat, follow, fieldOn}
-use Rattle.words.specs.declared.fields.Field.the-variants as Field
+use Rattle.fields.specs.Field.{Flat, follow, fieldOn}
+use Rattle.fields.specs.declared.taking.Field.the-variants as Field
 use Rattle.words.specs.declared.shapes.Shape.{Shape}
 use Rattle.words.specs.declared.shapes.Shape.the-variants as Shape
 

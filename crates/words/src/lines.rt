@@ -6,12 +6,12 @@ ghost use Rattle.rules.specs.Choice.{pick};
 ghost use Rattle.forms.specs.Text.{ill};
 ghost use Rattle.words.specs.Word.{wordsAt};
 ghost use Rattle.words.specs.Line.{Ends, Roomy, Took, Lined, none, wordsBy, lineOn, longestIn};
-use crate::fields::Held;
-use crate::fields::Holding;
 use crate::rows::letters_of;
 use crate::rows::row_of;
 use crate::shapes::shape_at;
 use crate::shapes::take_word;
+use fields::taking::Held;
+use fields::taking::Holding;
 use octets::find;
 use units::parts::smaller;
 

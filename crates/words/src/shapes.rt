@@ -1,13 +1,13 @@
 // The shape of a word: one field, or two with a colon between them. A letter of a table's row stands for it.
 ghost use mathlib.Core.Path.{_≡_};
 ghost use lib.ListN.{length};
-ghost use Rattle.words.specs.Field.{Room, Grew, heldIn};
+ghost use Rattle.fields.specs.Field.{Room, Grew, heldIn};
 ghost use Rattle.words.specs.Shape.{shapeOf, shapeAt, shapeOn};
 ghost use Rattle.words.specs.declared.shapes.Shape.the-variants as Shape;
-use crate::fields::Field;
-use crate::fields::Held;
-use crate::fields::Holding;
-use crate::fields::take_field;
+use fields::taking::Field;
+use fields::taking::Held;
+use fields::taking::Holding;
+use fields::taking::take_field;
 use octets::find;
 use units::parts::smaller;
 

@@ -1,7 +1,7 @@
 -- `units::kinds::is_no_kind` meets its contract. Assumes nothing.
 use borrow.Author.Needs.{needs}
 use lib.Dec.{eqb}
-use Rattle.units.proofs.None.{neither}
+use Rattle.laws.specs.None.{neither}
 use Rattle.units.proofs.kinds.is_no_kind.Statement.{statement}
 use Rattle.units.proofs.kinds.is_no_kind.Tie as tie
 

@@ -1,7 +1,7 @@
 -- `words::shapes::shape_at` meets its contract. Assumes nothing.
 use borrow.Author.Needs.{needs}
 use Rattle.words.specs.Shape.{shapeAt}
-use Rattle.words.proofs.Holding.{no-shape}
+use Rattle.words.proofs.Pairs.{no-shape}
 use Rattle.words.proofs.shapes.shape_at.Statement.{statement}
 use Rattle.words.proofs.shapes.shape_at.Tie as tie
 

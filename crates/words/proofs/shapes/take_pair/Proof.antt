@@ -1,6 +1,6 @@
 -- `words::shapes::take_pair` meets its contract. Assumes nothing.
 use borrow.Author.Needs.{needs}
-use Rattle.words.proofs.Holding.{ill-front, no-pair, pair-grew, room-back, room-front}
+use Rattle.words.proofs.Pairs.{ill-front, no-pair, pair-grew, room-back, room-front}
 use native.Mathlib.Omega.{arith}
 use mathlib.Core.Path.{sym}
 use lib.Seq.{length-take-le}

@@ -1,0 +1,5 @@
+pub mod Limits
+pub mod Counts
+pub mod Judged
+pub mod Added
+pub mod Most
