@@ -1,6 +1,9 @@
 // Answers the questions of standard input, one a line, each by one line of standard output, in order.
 ghost use Prim.Native.Nat.{_<_};
 ghost use lib.ListN.{length};
+
+mod room;
+
 use dialogue::begin;
 use dialogue::next_line;
 use dialogue::show;
@@ -33,15 +36,15 @@ fn answer_all(
     }
 }
 
-// What is lent is made once. A line has room for one byte more than a question may have, so that one that is too long is seen to be.
+// What is lent is made once.
 fn main() {
-    let mut chunk = [0u8; 65536];
-    let mut line = [0u8; 400001];
-    let mut text = [0u16; 400000];
-    let mut numbers = [0u32; 400000];
-    let mut out = [0u16; 400000];
-    let mut spans = [0u32; 65536];
-    let mut piece = [0u8; 65536];
+    let mut chunk = room::piece();
+    let mut line = room::line();
+    let mut text = room::units();
+    let mut numbers = room::numbers();
+    let mut out = room::units();
+    let mut spans = room::spans();
+    let mut piece = room::piece();
     answer_all(
         &mut chunk,
         &mut line,

@@ -1,0 +1,12 @@
+-- `answer::room::units` meets its contract. Assumes nothing.
+use Prim.Native.Nat.{ℕ}
+use mathlib.Core.Path.{sym}
+use lib.ListN.{length-replicate}
+use Rattle.answer.proofs.room.units.Statement.{statement}
+use Rattle.answer.proofs.room.units.Tie as tie
+
+returns : tie.Need-returns
+returns c = sym (length-replicate {A = ℕ} 400000 0)
+
+pub units-spec : {M : Type 1} → statement M
+units-spec = tie.close (tie.spec returns)
