@@ -20,13 +20,20 @@ slice-aggregate-ask c =
 
 loop-less : tie.Need-loop-less Inv-loop μ-loop
 loop-less c =
-    let at-loop-test = c .before .before .before .before .before .before .before .before .before .before .before .before .before .before .before .before .before .before .before .before .before .before .before .before .before .before .before .before .before .before in
+    let at-show-arg = c .before .before .before .before .before .before in
+    let at-numbers = at-show-arg .before .before .before .before .before .before in
+    let at-ask-arg3 = at-numbers .before .before .before .before .before .before in
+    let at-slice-known8 = at-ask-arg3 .before .before .before .before .before .before in
+    let at-loop-test = at-slice-known8 .before .before .before .before .before .before in
     omega (arith, at-loop-test .loop-test .taken)
 
 loop-again : tie.Need-loop-again Inv-loop μ-loop
 loop-again c =
-    let at-ask = c .before .before .before .before .before .before .before .before .before .before .before .before .before .before .before in
-    let at-next-line = at-ask .before .before .before .before .before .before .before .before .before .before .before in
+    let at-show-arg = c .before .before .before .before .before .before in
+    let at-numbers = at-show-arg .before .before .before .before .before .before in
+    let at-ask = at-numbers .before .before .before in
+    let at-if1 = at-ask .before .before .before .before .before .before in
+    let at-next-line = at-if1 .before .before .before .before .before in
     let at-loop = at-next-line .before .before .before .before .before in
     let kept = at-loop .loop .inv in
     let next = at-next-line .next-line in

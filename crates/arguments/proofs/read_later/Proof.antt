@@ -50,20 +50,28 @@ same-length c = still.same-length (c .before .before .before .before .before .lo
 
 returns : tie.Need-returns Inv-loop μ-loop
 returns c =
-    let h = c .before .before .before .before .before .loop .here in
-    still.stops (c .before .before .before .before .before .loop .inv) (c .before .before .before .if1 .taken) (stops (h .quoted) (getD (c .before .before .before .before .before .before .before .before .args .rest .now) (h .used) 0) _ (sym (c .before .is-end .ensures) ∙ c .if2 .taken))
+    let at-loop = c .before .before .before .before .before in
+    let start = at-loop .before .before .before in
+    let h = at-loop .loop .here in
+    still.stops (at-loop .loop .inv) (c .before .before .before .if1 .taken) (stops (h .quoted) (getD (start .args .rest .now) (h .used) 0) _ (sym (c .before .is-end .ensures) ∙ c .if2 .taken))
 
 read-step-requires : tie.Need-read-step-requires Inv-loop μ-loop
 read-step-requires c κs = (c .before .before .before .before .if1 .taken, c .before .before .before .before .before .before .loop .inv .few)
 
 loop-less : tie.Need-loop-less Inv-loop μ-loop
 loop-less c =
-    let l = c .before .before .before .before .before .before .before .before .before .loop in
+    let at-shared-slice-known2 = c .before .before .before .before .before .before in
+    let at-loop = at-shared-slice-known2 .before .before .before in
+    let start = at-loop .before .before .before in
+    let l = at-loop .loop in
     let s = taken (c .before .before) in
-    omega (arith, s .some, s .within, length-drop (l .here .used) (c .before .before .before .before .before .before .before .before .before .before .before .before .args .rest .now), c .before .before .read-step .ensures .uses)
+    omega (arith, s .some, s .within, length-drop (l .here .used) (start .args .rest .now), c .before .before .read-step .ensures .uses)
 
 loop-again : tie.Need-loop-again Inv-loop μ-loop
-loop-again c = turn _ (c .before .before .before .before .before .before .before .before .before .loop .inv) (taken (c .before .before)) (c .before .before .read-step .ensures)
+loop-again c =
+    let at-shared-slice-known2 = c .before .before .before .before .before .before in
+    let at-loop = at-shared-slice-known2 .before .before .before in
+    turn _ (at-loop .loop .inv) (taken (c .before .before)) (c .before .before .read-step .ensures)
 
 same-length-2 : tie.Need-same-length-2 Inv-loop μ-loop
 same-length-2 c = still.same-length (c .before .before .loop .inv)

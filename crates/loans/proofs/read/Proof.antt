@@ -23,7 +23,9 @@ same-length-2 c =
 
 same-length-3 : tie.Need-same-length-3
 same-length-3 c =
-    let at-lend = c .before .before .before .before .before .before .before .before .before .before .before .before .before .before .before in
+    let at-out2 = c .before .before .before .before .before .before in
+    let at-spans = at-out2 .before .before .before .before .before .before in
+    let at-lend = at-spans .before .before .before in
     at-lend .lend .kept .1 .0
 
 pub read-spec : {M : Type 1} → statement M

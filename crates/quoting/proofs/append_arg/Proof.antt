@@ -25,20 +25,32 @@ same-length c = search needs
 
 returns : tie.Need-returns
 returns c =
-    let a = c .before .before .before .before .before .before .before .before .before .before .before .args in
-    let plain = sym (c .before .before .before .before .before .is-plain .ensures) ∙ c .before .before .before .before .if2 .taken in
-    rw (← (c .before .before .before .before .before .before .before .before .is-regular .ensures), c .before .before .before .before .before .before .before .if1 .taken, ← (form-is (a .force-quotes) (a .arg .now)), ← (c .before .before .before .before .before .before .needs-quotes .ensures), plain-formed false (a .arg .now) plain) (c .before .before .put-plain .ensures)
+    let at-is-plain = c .before .before .before .before .before in
+    let at-needs-quotes = at-is-plain .before in
+    let at-if1 = at-needs-quotes .before in
+    let at-is-regular = at-if1 .before in
+    let start = at-is-regular .before .before .before in
+    let a = start .args in
+    let plain = sym (at-is-plain .is-plain .ensures) ∙ c .before .before .before .before .if2 .taken in
+    rw (← (at-is-regular .is-regular .ensures), at-if1 .if1 .taken, ← (form-is (a .force-quotes) (a .arg .now)), ← (at-needs-quotes .needs-quotes .ensures), plain-formed false (a .arg .now) plain) (c .before .before .put-plain .ensures)
 
 put-form-requires : tie.Need-put-form-requires
-put-form-requires c κs = omega (arith, form-most (c .before .before .before .needs-quotes .result) (c .before .before .before .before .before .before .before .before .args .arg .now))
+put-form-requires c κs =
+    let at-shared-slice-known = c .before .before .before .before .before .before in
+    let start = at-shared-slice-known .before .before in
+    omega (arith, form-most (c .before .before .before .needs-quotes .result) (start .args .arg .now))
 
 same-length-2 : tie.Need-same-length-2
 same-length-2 c = search needs
 
 returns-2 : tie.Need-returns-2
 returns-2 c =
-    let a = c .before .before .before .before .before .before .before .before .before .before .before .args in
-    rw (← (c .before .before .before .before .before .before .before .before .is-regular .ensures), c .before .before .before .before .before .before .before .if1 .taken, ← (form-is (a .force-quotes) (a .arg .now)), ← (c .before .before .before .before .before .before .needs-quotes .ensures)) (c .before .before .put-form .ensures)
+    let at-needs-quotes = c .before .before .before .before .before .before in
+    let at-if1 = at-needs-quotes .before in
+    let at-is-regular = at-if1 .before in
+    let start = at-is-regular .before .before .before in
+    let a = start .args in
+    rw (← (at-is-regular .is-regular .ensures), at-if1 .if1 .taken, ← (form-is (a .force-quotes) (a .arg .now)), ← (at-needs-quotes .needs-quotes .ensures)) (c .before .before .put-form .ensures)
 
 put-raw-requires : tie.Need-put-raw-requires
 put-raw-requires c κs = search needs

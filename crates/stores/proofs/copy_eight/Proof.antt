@@ -22,8 +22,10 @@ same-length c = search needs
 
 returns : tie.Need-returns
 returns c =
-    let a = c .before .before .before .before .before .before .before .before .before .before .args in
-    c .before .before .copy-four2 .ensures ∙ rw (c .before .before .before .before .before .before .copy-four .ensures) (parts-stored (a .out .now) (a .to) (a .run .now) (a .at) 4 4 (search needs))
+    let at-copy-four = c .before .before .before .before .before .before in
+    let start = at-copy-four .before .before .before .before in
+    let a = start .args in
+    c .before .before .copy-four2 .ensures ∙ rw (at-copy-four .copy-four .ensures) (parts-stored (a .out .now) (a .to) (a .run .now) (a .at) 4 4 (search needs))
 
 pub copy-eight-spec : {M : Type 1} → statement M
 copy-eight-spec =

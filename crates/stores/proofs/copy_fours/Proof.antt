@@ -25,10 +25,12 @@ same-length c = search needs
 
 returns : tie.Need-returns
 returns c =
-    let a = c .before .before .before .before .before .before .before .before .before .before .args in
+    let at-copy-four = c .before .before .before .before .before .before in
+    let start = at-copy-four .before .before .before .before in
+    let a = start .args in
     let xs = a .run .now in
     let last = length xs - 4 in
-    c .before .before .copy-four2 .ensures ∙ rw (c .before .before .before .before .before .before .copy-four .ensures, last-part xs last 4 (search needs)) (last-over (a .out .now) (a .at) xs 4 last (search needs) (search needs))
+    c .before .before .copy-four2 .ensures ∙ rw (at-copy-four .copy-four .ensures, last-part xs last 4 (search needs)) (last-over (a .out .now) (a .at) xs 4 last (search needs) (search needs))
 
 pub copy-fours-spec : {M : Type 1} → statement M
 copy-fours-spec =

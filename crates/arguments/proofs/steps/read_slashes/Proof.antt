@@ -65,50 +65,71 @@ repeat-requires : tie.Need-repeat-requires
 repeat-requires c κs = search needs
 
 add-t22 : tie.Need-add-t22
-add-t22 c = omega (arith, run-is (c .before .before .before .before .before .before .before .before), c .before .before .before .before .before .before .before .before .before .before .before .before .pre)
+add-t22 c =
+    let at-starts-with-quote = c .before .before .before .before .before .before in
+    let at-backslashes = at-starts-with-quote .before .before in
+    omega (arith, run-is at-backslashes, start at-backslashes .pre)
 
 same-length : tie.Need-same-length
 same-length c = search needs
 
 returns : tie.Need-returns
 returns c =
-    let b = c .before .before .before .before .before .before .before .before in
+    let at-if1 = c .before .before .before .before .before in
+    let at-starts-with-quote = at-if1 .before in
+    let b = at-starts-with-quote .before .before in
     let a = start b .args in
-    literal (a .rest .now) (a .out .now) (a .here) _ (run-is b .0) (quote-is (c .before .before .before .before .before .before) ∙ not-true _ (c .before .before .before .before .before .if1 .taken)) (c .before .before .before .repeat .ensures)
+    literal (a .rest .now) (a .out .now) (a .here) _ (run-is b .0) (quote-is at-starts-with-quote ∙ not-true _ (at-if1 .if1 .taken)) (c .before .before .before .repeat .ensures)
 
 repeat-requires-2 : tie.Need-repeat-requires-2
 repeat-requires-2 c κs = search needs
 
 add-units : tie.Need-add-units
-add-units c = omega (arith, run-is (c .before .before .before .before .before .before .before .before), c .before .before .before .before .before .before .before .before .before .before .before .before .pre)
+add-units c =
+    let at-starts-with-quote = c .before .before .before .before .before .before in
+    let at-backslashes = at-starts-with-quote .before .before in
+    omega (arith, run-is at-backslashes, start at-backslashes .pre)
 
 put-requires : tie.Need-put-requires
 put-requires c κs = search needs
 
 add-t29 : tie.Need-add-t29
-add-t29 c = omega (arith, run-is (c .before .before .before .before .before .before .before .before .before .before .before .before .before), c .before .before .before .before .before .before .before .before .before .before .before .before .before .before .before .before .before .pre)
+add-t29 c =
+    let at-slice-known3 = c .before .before .before .before .before .before in
+    let at-starts-with-quote = at-slice-known3 .before .before .before .before .before in
+    let at-backslashes = at-starts-with-quote .before .before in
+    omega (arith, run-is at-backslashes, start at-backslashes .pre)
 
 add-t30 : tie.Need-add-t30
-add-t30 c = omega (arith, run-is (c .before .before .before .before .before .before .before .before .before .before .before .before .before), c .before .before .before .before .before .before .before .before .before .before .before .before .before .before .before .before .before .pre)
+add-t30 c =
+    let at-slice-known3 = c .before .before .before .before .before .before in
+    let at-starts-with-quote = at-slice-known3 .before .before .before .before .before in
+    let at-backslashes = at-starts-with-quote .before .before in
+    omega (arith, run-is at-backslashes, start at-backslashes .pre)
 
 same-length-2 : tie.Need-same-length-2
 same-length-2 c = search needs
 
 returns-2 : tie.Need-returns-2
 returns-2 c =
-    let q = c .before .before .before .before .before .before .before .before .before .before .before in
-    let b = c .before .before .before .before .before .before .before .before .before .before .before .before .before in
+    let at-slice-known3 = c .before .before .before .before .before .before in
+    let at-repeat2 = at-slice-known3 .before .before in
+    let at-if1 = at-repeat2 .before .before in
+    let q = at-if1 .before in
+    let b = q .before .before in
     let a = start b .args in
-    escaped (a .rest .now) (a .out .now) (a .here) _ (run-is b .0) (quote-is q ∙ not-false _ (c .before .before .before .before .before .before .before .before .before .before .if1 .left)) (c .before .before .before .before .if2 .taken) (c .before .before .before .before .before .before .before .before .repeat2 .ensures) (c .before .before .put .ensures)
+    escaped (a .rest .now) (a .out .now) (a .here) _ (run-is b .0) (quote-is q ∙ not-false _ (at-if1 .if1 .left)) (c .before .before .before .before .if2 .taken) (at-repeat2 .repeat2 .ensures) (c .before .before .put .ensures)
 
 same-length-3 : tie.Need-same-length-3
 same-length-3 c = search needs
 
 returns-3 : tie.Need-returns-3
 returns-3 c =
-    let b = c .before .before .before .before .before .before .before .before .before in
+    let at-if1 = c .before .before .before .before .before .before in
+    let at-starts-with-quote = at-if1 .before in
+    let b = at-starts-with-quote .before .before in
     let a = start b .args in
-    halved (a .rest .now) (a .out .now) (a .here) _ (run-is b .0) (quote-is (c .before .before .before .before .before .before .before) ∙ not-false _ (c .before .before .before .before .before .before .if1 .left)) (c .if2 .left) (c .before .before .before .before .repeat2 .ensures)
+    halved (a .rest .now) (a .out .now) (a .here) _ (run-is b .0) (quote-is at-starts-with-quote ∙ not-false _ (at-if1 .if1 .left)) (c .if2 .left) (c .before .before .before .before .repeat2 .ensures)
 
 pub read-slashes-spec : {M : Type 1} → statement M
 read-slashes-spec =

@@ -34,7 +34,10 @@ same-length : tie.Need-same-length
 same-length c = search needs
 
 returns : tie.Need-returns
-returns c = at-mark _ _ (c .before .before .before .before .before .before .before .before .pre .0) (c .before .before .before .before .if1 .taken) (c .before .before .read-mark .ensures)
+returns c =
+    let at-slice-known = c .before .before .before .before .before .before in
+    let start = at-slice-known .before .before in
+    at-mark _ _ (start .pre .0) (c .before .before .before .before .if1 .taken) (c .before .before .read-mark .ensures)
 
 mul-if2 : tie.Need-mul-if2
 mul-if2 c = search needs
@@ -49,7 +52,10 @@ same-length-2 : tie.Need-same-length-2
 same-length-2 c = search needs
 
 returns-2 : tie.Need-returns-2
-returns-2 c = at-slash _ _ (c .before .before .before .before .before .before .before .before .before .before .pre .0) (c .before .before .before .before .if2 .taken) (c .before .before .read-slashes .ensures)
+returns-2 c =
+    let at-if1 = c .before .before .before .before .before .before in
+    let start = at-if1 .before .before .before .before in
+    at-slash _ _ (start .pre .0) (c .before .before .before .before .if2 .taken) (c .before .before .read-slashes .ensures)
 
 mul-plain-run : tie.Need-mul-plain-run
 mul-plain-run c = search needs
@@ -85,7 +91,9 @@ copy-run-requires : tie.Need-copy-run-requires
 copy-run-requires c κs = search needs
 
 add-t7 : tie.Need-add-t7
-add-t7 c = omega (arith, run-is (c .before .before .before .before .before .before), c .before .before .before .before .before .before .before .before .before .before .before .before .before .before .pre)
+add-t7 c =
+    let at-plain-run = c .before .before .before .before .before .before in
+    omega (arith, run-is at-plain-run, start at-plain-run .pre)
 
 same-length-3 : tie.Need-same-length-3
 same-length-3 c = search needs
@@ -93,8 +101,10 @@ same-length-3 c = search needs
 returns-3 : tie.Need-returns-3
 returns-3 c =
     let b = c .before .before .before .before .before .before in
+    let at-if2 = b .before .before in
+    let at-if1 = at-if2 .before .before in
     let a = start b .args in
-    plain (a .rest .now) (a .here) (start b .pre .0) _ (c .before .before .before .before .before .before .before .before .before .before .if1 .left) (c .before .before .before .before .before .before .before .before .if2 .left) (run-is b .0) (c .before .before .before .copy-run .ensures ∙ ap (sets (a .out .now) (a .here .units)) (part-run (a .rest .now) (a .here .used) (b .plain-run .result)))
+    plain (a .rest .now) (a .here) (start b .pre .0) _ (at-if1 .if1 .left) (at-if2 .if2 .left) (run-is b .0) (c .before .before .before .copy-run .ensures ∙ ap (sets (a .out .now) (a .here .units)) (part-run (a .rest .now) (a .here .used) (b .plain-run .result)))
 
 pub read-step-spec : {M : Type 1} → statement M
 read-step-spec =

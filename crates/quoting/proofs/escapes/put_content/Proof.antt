@@ -17,38 +17,56 @@ Inv-loop out₀ at arg batch spot₀ i₀ out spot i = (i ≤ length arg) × Mid
 abbrev μ-loop : tie.MeasureT-loop
 μ-loop out₀ at arg batch spot₀ i₀ out spot i = length arg - i
 
+-- the places of a turn, back from its count of plain units: the turn's begin, and the function's
+abbrev turn : tie.After-plain-eights Inv-loop μ-loop → tie.In-loop Inv-loop μ-loop
+turn p = p .before .before
+
+abbrev start : tie.After-plain-eights Inv-loop μ-loop → tie.Start Inv-loop μ-loop
+start p = turn p .before .before .before .before
+
+-- and back from the units that go one by one: the copy of the plain ones, and their count
+abbrev copied : tie.After-put-units-arg2 Inv-loop μ-loop → tie.After-copy-run Inv-loop μ-loop
+copied c = c .before .before .before .before .before .before .before
+
+abbrev counted : tie.After-put-units-arg2 Inv-loop μ-loop → tie.After-plain-eights Inv-loop μ-loop
+counted c = copied c .before .before .before
+
 -- the plain units are plain-further
 plain-done : (c : tie.After-put-units-arg2 Inv-loop μ-loop)
-    → let a = c .before .before .before .before .before .before .before .before .before .before .before .before .before .before .before .before .args in
-    let l = c .before .before .before .before .before .before .before .before .before .before .before .before .before .loop in
-    let n = c .before .before .before .before .before .before .before .before .before .before .plain-eights .result in
-    Midway (a .batch) 0 (a .arg .now) (a .at) (a .out .now) (l .i + n) (l .spot .to + n) (c .before .before .still-count .result) (c .before .before .before .before .before .before .before .copy-run .last .0)
+    → let p = counted c in
+    let a = start p .args in
+    let l = turn p .before .loop in
+    let n = p .plain-eights .result in
+    Midway (a .batch) 0 (a .arg .now) (a .at) (a .out .now) (l .i + n) (l .spot .to + n) (c .before .before .still-count .result) (copied c .copy-run .last .0)
 plain-done c =
-    let l = c .before .before .before .before .before .before .before .before .before .before .before .before .before .loop in
-    plain-further (l .i) _ (part-is (l .i) (c .before .before .before .before .before .before .before .before .before .before .before .before .before .before .before .before .args .arg .now)) (c .before .before .before .before .before .before .before .before .before .before .plain-eights .ensures) (l .inv .1) (l .inv .0) (c .before .before .before .before .before .before .before .copy-run .ensures) (c .before .before .still-count .ensures)
+    let p = counted c in
+    let l = turn p .before .loop in
+    plain-further (l .i) _ (part-is (l .i) (start p .args .arg .now)) (p .plain-eights .ensures) (l .inv .1) (l .inv .0) (copied c .copy-run .ensures) (c .before .before .still-count .ensures)
 
 -- the units that go one by one end within the argument, and behind the plain ones, and where the argument goes on there are some
 within : (c : tie.After-put-units-arg2 Inv-loop μ-loop)
-    → let i = c .before .before .before .before .before .before .before .before .before .before .before .before .before .loop .i in
-    let n = c .before .before .before .before .before .before .before .before .before .before .plain-eights .result in
+    → let p = counted c in
     let end = c .before .before .before .before .smaller .result in
-    (n ≤ end) × (i + end ≤ length (c .before .before .before .before .before .before .before .before .before .before .before .before .before .before .before .before .args .arg .now)) × (0 < end)
+    (p .plain-eights .result ≤ end) × (turn p .before .loop .i + end ≤ length (start p .args .arg .now)) × (0 < end)
 within c =
-    let l = c .before .before .before .before .before .before .before .before .before .before .before .before .before .loop in
-    let xs = c .before .before .before .before .before .before .before .before .before .before .before .before .before .before .before .before .args .arg .now in
+    let p = counted c in
+    let l = turn p .before .loop in
+    let xs = start p .args .arg .now in
     let w = ap length (part-is (l .i) xs) ∙ length-drop (l .i) xs in
-    let p = c .before .before .before .before .before .before .before .before .before .before .plain-eights .ensures .inside in
     let e = c .before .before .before .before .smaller .ensures in
-    (omega (arith, p, e), omega (arith, e, w, l .inv .0), omega (arith, e, w, c .before .before .before .before .before .before .before .before .before .before .before .before .loop-test .taken))
+    (omega (arith, p .plain-eights .ensures .inside, e), omega (arith, e, w, l .inv .0), omega (arith, e, w, turn p .loop-test .taken))
 
 -- they are a part of the argument
 units-are : (c : tie.After-put-units-arg2 Inv-loop μ-loop)
-    → let i = c .before .before .before .before .before .before .before .before .before .before .before .before .before .loop .i in
-    let n = c .before .before .before .before .before .before .before .before .before .before .plain-eights .result in
+    → let p = counted c in
+    let i = turn p .before .loop .i in
+    let n = p .plain-eights .result in
     let end = c .before .before .before .before .smaller .result in
-    let xs = c .before .before .before .before .before .before .before .before .before .before .before .before .before .before .before .before .args .arg .now in
+    let xs = start p .args .arg .now in
     take (end - n) (drop n (take (length xs - i) (drop i xs))) ≡ part xs (i + n) (end - n)
-units-are c = rw (part-is (c .before .before .before .before .before .before .before .before .before .before .before .before .before .loop .i) (c .before .before .before .before .before .before .before .before .before .before .before .before .before .before .before .before .args .arg .now), drop-drop)
+units-are c =
+    let p = counted c in
+    rw (part-is (turn p .before .loop .i) (start p .args .arg .now), drop-drop)
 
 loop-holds : tie.Need-loop-holds Inv-loop μ-loop
 loop-holds c = (search needs, at-front)
@@ -81,7 +99,10 @@ smaller-requires : tie.Need-smaller-requires Inv-loop μ-loop
 smaller-requires c κs = search needs
 
 add-put-units : tie.Need-add-put-units Inv-loop μ-loop
-add-put-units c = omega (arith, c .before .before .before .before .before .before .before .before .before .before .before .before .before .pre, plain-room (c .before .before .before .before .before .before .before .before .before .before .loop .i) _ (part-is (c .before .before .before .before .before .before .before .before .before .before .loop .i) (c .before .before .before .before .before .before .before .before .before .before .before .before .before .args .arg .now)) (c .before .before .before .before .before .before .before .plain-eights .ensures) (c .before .before .before .before .before .before .before .before .before .before .loop .inv .1))
+add-put-units c =
+    let p = c .before .before .before .before .before .before .before in
+    let l = turn p .before .loop in
+    omega (arith, start p .pre, plain-room (l .i) _ (part-is (l .i) (start p .args .arg .now)) (p .plain-eights .ensures) (l .inv .1))
 
 still-count-requires : tie.Need-still-count-requires Inv-loop μ-loop
 still-count-requires c κs = search needs
@@ -100,13 +121,14 @@ part-put-units-end c = search needs
 
 put-units-requires : tie.Need-put-units-requires Inv-loop μ-loop
 put-units-requires c κs =
-    let a = c .before .before .before .before .before .before .before .before .before .before .before .before .before .before .before .before .args in
-    let i = c .before .before .before .before .before .before .before .before .before .before .before .before .before .loop .i in
-    let n = c .before .before .before .before .before .before .before .before .before .before .plain-eights .result in
+    let p = counted c in
+    let a = start p .args in
+    let i = turn p .before .loop .i in
+    let n = p .plain-eights .result in
     let end = c .before .before .before .before .smaller .result in
     let g = plain-done c in
     let room = rw (← (units-are c)) at (room-further (i + n) (end - n) g) in
-    (omega (arith, c .before .before .before .before .before .before .before .before .before .before .before .before .before .before .before .before .pre, room), omega (arith, g .few, within c .1, ap length (units-are c), length-take (end - n) (drop (i + n) (a .arg .now)), length-drop (i + n) (a .arg .now)))
+    (omega (arith, start p .pre, room), omega (arith, g .few, within c .1, ap length (units-are c), length-take (end - n) (drop (i + n) (a .arg .now)), length-drop (i + n) (a .arg .now)))
 
 add-i : tie.Need-add-i Inv-loop μ-loop
 add-i c = omega (arith, within (c .before .before .before))
@@ -116,10 +138,10 @@ loop-less c = omega (arith, within (c .before .before .before))
 
 loop-again : tie.Need-loop-again Inv-loop μ-loop
 loop-again c =
-    let i = c .before .before .before .before .before .before .before .before .before .before .before .before .before .before .before .before .loop .i in
-    let n = c .before .before .before .before .before .before .before .before .before .before .before .before .before .plain-eights .result in
-    let end = c .before .before .before .before .before .before .before .smaller .result in
     let m = c .before .before .before in
+    let i = turn (counted m) .before .loop .i in
+    let n = counted m .plain-eights .result in
+    let end = m .before .before .before .before .smaller .result in
     let e : i + n + (end - n) ≡ i + end = omega (arith, within m) in
     (omega (arith, within m), rw e at (part-further (i + n) (end - n) (plain-done m) (rw (units-are m) at (c .before .before .put-units .ensures)) (omega (arith, within m))))
 

@@ -18,19 +18,26 @@ put-content-requires c κs =
 
 put-end-requires : tie.Need-put-end-requires
 put-end-requires c κs =
-    let a = c .before .before .before .before .before .before .before .before .before .before .before .args in
+    let at-slice-known2 = c .before .before .before .before .before in
+    let at-put-edge = at-slice-known2 .before .before in
+    let start = at-put-edge .before .before .before .before in
+    let a = start .args in
     let e = c .before .before .before .put-content .ensures in
-    omega (arith, c .before .before .before .before .before .before .before .before .before .before .before .pre, rw (← (e .counts)) at (formed-parts (a .shape .batch) (a .shape .quoted) (a .arg .now)), c .before .before .before .before .before .before .before .put-edge .ensures .ends, e .places .ends)
+    omega (arith, start .pre, rw (← (e .counts)) at (formed-parts (a .shape .batch) (a .shape .quoted) (a .arg .now)), at-put-edge .put-edge .ensures .ends, e .places .ends)
 
 put-edge-requires-2 : tie.Need-put-edge-requires-2
 put-edge-requires-2 c κs =
-    let a = c .before .before .before .before .before .before .before .before .before .before .before .before .before .before .before .args in
-    let e = c .before .before .before .before .before .before .before .put-content .ensures in
+    let at-slice-known3 = c .before .before .before .before .before in
+    let at-put-content = at-slice-known3 .before .before in
+    let at-put-edge = at-put-content .before .before .before .before in
+    let start = at-put-edge .before .before .before .before in
+    let a = start .args in
+    let e = at-put-content .put-content .ensures in
     omega (
       arith,
-      c .before .before .before .before .before .before .before .before .before .before .before .before .before .before .before .pre,
+      start .pre,
       rw (← (e .counts)) at (formed-parts (a .shape .batch) (a .shape .quoted) (a .arg .now)),
-      c .before .before .before .before .before .before .before .before .before .before .before .put-edge .ensures .ends,
+      at-put-edge .put-edge .ensures .ends,
       e .places .ends,
       rw length-replicate at (c .before .before .before .put-end .ensures .ends),
     )
@@ -41,8 +48,11 @@ same-length c = search needs
 returns : tie.Need-returns
 unfolding formed emitted
 returns c =
-    let e = c .before .before .before .before .before .before .before .before .before .before .put-content .ensures in
-    appended (both-placed (both-placed (c .before .before .before .before .before .before .before .before .before .before .before .before .before .before .put-edge .ensures) (both-placed (e .places) (rw (e .counts) at (c .before .before .before .before .before .before .put-end .ensures)))) (c .before .before .put-edge2 .ensures))
+    let at-put-end = c .before .before .before .before .before .before in
+    let at-put-content = at-put-end .before .before .before .before in
+    let at-put-edge = at-put-content .before .before .before .before in
+    let e = at-put-content .put-content .ensures in
+    appended (both-placed (both-placed (at-put-edge .put-edge .ensures) (both-placed (e .places) (rw (e .counts) at (at-put-end .put-end .ensures)))) (c .before .before .put-edge2 .ensures))
 
 pub put-form-spec : {M : Type 1} → statement M
 put-form-spec =

@@ -44,13 +44,21 @@ put-requires : tie.Need-put-requires
 put-requires c κs = search needs
 
 add-put : tie.Need-add-put
-add-put c = omega (arith, room (c .before .before .before .before .before .before .before .before .before .before), rw length-replicate at (c .before .before .before .before .before .before .before .before .put-slashes .ensures .ends))
+add-put c =
+    let at-slice-known3 = c .before .before .before .before .before .before in
+    let at-put-slashes = at-slice-known3 .before .before in
+    let at-if1 = at-put-slashes .before .before in
+    omega (arith, room at-if1, rw length-replicate at (at-put-slashes .put-slashes .ensures .ends))
 
 put-requires-2 : tie.Need-put-requires-2
 put-requires-2 c κs = search needs
 
 add-result-2 : tie.Need-add-result-2
-add-result-2 c = omega (arith, room (c .before .before .before .before .before .before .before .before .before .before .before .before .before), rw length-replicate at (c .before .before .before .before .before .before .before .before .before .before .before .put-slashes .ensures .ends))
+add-result-2 c =
+    let at-put = c .before .before .before .before .before .before in
+    let at-put-slashes = at-put .before .before .before .before .before in
+    let at-if1 = at-put-slashes .before .before in
+    omega (arith, room at-if1, rw length-replicate at (at-put-slashes .put-slashes .ensures .ends))
 
 same-length-2 : tie.Need-same-length-2
 same-length-2 c = search needs
@@ -58,8 +66,11 @@ same-length-2 c = search needs
 returns-2 : tie.Need-returns-2
 unfolding markFor
 returns-2 c =
-    rw (eq-eqb _ 34 (c .before .before .before .before .before .before .before .before .before .before .before .before .before .if1 .left), ← (c .before .before .before .before .before .before .before .before-quote .ensures))
-    (both-placed (c .before .before .before .before .before .before .before .before .before .before .before .put-slashes .ensures) (two-placed _ 34 (c .before .before .before .before .before .before .before .before .before .before .before .put-slashes .result) (c .before .before .before .before .before .before .put .ensures) (c .before .before .put2 .ensures)))
+    let at-put = c .before .before .before .before .before .before in
+    let at-put-slashes = at-put .before .before .before .before .before in
+    let at-if1 = at-put-slashes .before .before in
+    rw (eq-eqb _ 34 (at-if1 .if1 .left), ← (at-put .before .before-quote .ensures))
+    (both-placed (at-put-slashes .put-slashes .ensures) (two-placed _ 34 (at-put-slashes .put-slashes .result) (at-put .put .ensures) (c .before .before .put2 .ensures)))
 
 pub put-mark-spec : {M : Type 1} → statement M
 put-mark-spec =

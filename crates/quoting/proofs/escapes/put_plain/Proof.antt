@@ -14,16 +14,27 @@ copy-run-requires : tie.Need-copy-run-requires
 copy-run-requires c κs = search needs
 
 add-put-edge : tie.Need-add-put-edge
-add-put-edge c = omega (arith, c .before .before .before .before .before .before .before .put-edge .ensures .ends, edge-length (c .before .before .before .before .before .before .before .before .before .before .before .args .quoted))
+add-put-edge c =
+    let at-slice-known2 = c .before .before .before .before .before in
+    let at-put-edge = at-slice-known2 .before .before in
+    let start = at-put-edge .before .before .before .before in
+    omega (arith, at-put-edge .put-edge .ensures .ends, edge-length (start .args .quoted))
 
 put-edge-requires-2 : tie.Need-put-edge-requires-2
-put-edge-requires-2 c κs = omega (arith, c .before .before .before .before .before .before .before .put-edge .ensures .ends, edge-length (c .before .before .before .before .before .before .before .before .before .before .before .args .quoted))
+put-edge-requires-2 c κs =
+    let at-slice-known2 = c .before .before .before .before .before in
+    let at-put-edge = at-slice-known2 .before .before in
+    let start = at-put-edge .before .before .before .before in
+    omega (arith, at-put-edge .put-edge .ensures .ends, edge-length (start .args .quoted))
 
 same-length : tie.Need-same-length
 same-length c = search needs
 
 returns : tie.Need-returns
-returns c = appended (both-placed (both-placed (c .before .before .before .before .before .before .before .before .before .before .put-edge .ensures) (record { ends = refl; stores = c .before .before .before .before .before .before .copy-run .ensures })) (c .before .before .put-edge2 .ensures))
+returns c =
+    let at-copy-run = c .before .before .before .before .before .before in
+    let at-put-edge = at-copy-run .before .before .before .before in
+    appended (both-placed (both-placed (at-put-edge .put-edge .ensures) (record { ends = refl; stores = at-copy-run .copy-run .ensures })) (c .before .before .put-edge2 .ensures))
 
 pub put-plain-spec : {M : Type 1} → statement M
 put-plain-spec =

@@ -77,11 +77,18 @@ skip-blanks-requires-2 c κs = search needs
 
 loop-less : tie.Need-loop-less Inv-loop μ-loop
 loop-less c =
-    let m = c .before .before .before .before .before .before .before .before .read-later in
-    let l = c .before .before .before .before .before .before .before .before .before .before .before .before .before .loop in
-    let line = c .before .before .before .before .before .before .before .before .before .before .before .before .before .before .before .before .before .before .before .before .before .before .before .before .before .before .args .line .now in
-    let some : 0 < length (drop (l .i) line) = rw length-drop (omega arith) in
-    omega (arith, (rw (part-is (l .i) line) at (m .ensures)) .some some, c .skip-blanks2 .ensures)
+    let at-slice-known5 = c .before .before .before .before .before .before in
+    let at-read-later = at-slice-known5 .before .before in
+    let at-loop-test = at-read-later .before .before .before .before in
+    let at-loop = at-loop-test .before in
+    let at-slice-known3 = at-loop .before .before .before .before .before .before in
+    let at-slice-known = at-slice-known3 .before .before .before .before .before in
+    let start = at-slice-known .before .before in
+    let m = at-read-later .read-later in
+    let l = at-loop .loop in
+    let line = start .args .line .now in
+    let some : 0 < length (drop (l .i) line) = rw length-drop (omega (arith, at-loop-test .loop-test .taken)) in
+    omega (arith, at-loop-test .loop-test .taken, (rw (part-is (l .i) line) at (m .ensures)) .some some, c .skip-blanks2 .ensures)
 
 loop-again : tie.Need-loop-again Inv-loop μ-loop
 loop-again c =

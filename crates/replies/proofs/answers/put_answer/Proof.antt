@@ -11,12 +11,17 @@ use Rattle.replies.proofs.answers.put_answer.Tie as tie
 
 slice-aggregate-put-texts : tie.Need-slice-aggregate-put-texts
 slice-aggregate-put-texts c =
-    let at-smaller = c .before .before .before .before .before .before .before .before .before .before .before .before .before .before .before .before .before in
+    let at-put-if-arg2 = c .before .before .before .before .before .before in
+    let at-slice-known2 = at-put-if-arg2 .before .before .before .before .before .before in
+    let at-smaller = at-slice-known2 .before .before .before .before .before in
     sym (length-take-le _ _ (omega (arith, at-smaller .smaller .ensures)))
 
 slice-aggregate-put-numbers : tie.Need-slice-aggregate-put-numbers
 slice-aggregate-put-numbers c =
-    let at-smaller2 = c .before .before .before .before .before .before .before .before .before .before .before .before .before .before .before .before .before .before .before .before .before in
+    let at-put-texts-arg = c .before .before .before .before .before .before in
+    let at-slice-known3 = at-put-texts-arg .before .before .before .before .before .before in
+    let at-piece = at-slice-known3 .before .before .before .before .before .before in
+    let at-smaller2 = at-piece .before .before .before in
     sym (length-take-le _ _ (omega (arith, at-smaller2 .smaller2 .ensures)))
 
 same-length : tie.Need-same-length

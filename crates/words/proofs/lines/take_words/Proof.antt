@@ -30,14 +30,17 @@ take-word-requires c κs =
 
 add-i : tie.Need-add-i Inv-loop μ-loop
 add-i c =
-    let at-loop-test = c .before .before .before .before .before .before .before .before .before .before .before .before .before in
+    let at-text = c .before .before .before .before .before .before in
+    let at-shape-at = at-text .before .before .before .before .before in
+    let at-loop-test = at-shape-at .before .before in
     let at-loop = at-loop-test .before in
     let entry = at-loop .before .before .before .before .before in
     omega (arith, at-loop .loop .inv .1 .index, at-loop-test .loop-test .taken, entry .good)
 
 loop-less : tie.Need-loop-less Inv-loop μ-loop
 loop-less c =
-    let at-word-end = c .before .before .before .before .before .before .before .before .before .before .before .before in
+    let at-text = c .before .before .before .before .before .before in
+    let at-word-end = at-text .before .before .before .before .before .before in
     omega (arith, at-word-end .word-end .ensures .within, at-word-end .word-end .ensures .behind)
 
 loop-again : tie.Need-loop-again Inv-loop μ-loop

@@ -15,12 +15,14 @@ slice-aggregate-take-field c = sym (length-take-le _ _ (omega arith))
 
 take-field-requires : tie.Need-take-field-requires
 take-field-requires c κs =
-    let entry = c .before .before .before .before .before .before .before .before in
+    let at-slice-known = c .before .before .before .before .before .before in
+    let entry = at-slice-known .before .before in
     room-front (entry .args .word .now) (c .before .before .before .before .find .result) (entry .pre)
 
 take-field-requires-2 : tie.Need-take-field-requires-2
 take-field-requires-2 c κs =
-    let at-take-field = c .before .before .before .before .before .before .before .before .before .before in
+    let at-slice-known4 = c .before .before .before .before .before .before in
+    let at-take-field = at-slice-known4 .before .before .before .before in
     let at-if1 = at-take-field .before .before .before .before in
     let at-find = at-if1 .before in
     let entry = at-find .before .before .before .before in
@@ -30,7 +32,8 @@ take-field-requires-2 c κs =
 
 returns-2 : tie.Need-returns-2
 returns-2 c =
-    let at-k = c .before .before .before .before .before .before .before .before .before in
+    let at-take-field-arg5 = c .before .before .before .before .before .before in
+    let at-k = at-take-field-arg5 .before .before .before in
     let at-take-field = at-k .before .before .before .before .before .before in
     let at-if1 = at-take-field .before .before .before .before in
     let at-find = at-if1 .before in
