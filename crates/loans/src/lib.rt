@@ -4,6 +4,7 @@ ghost use Prim.Native.Nat.{min};
 ghost use lib.ListN.{length};
 ghost use lib.Seq.{sets};
 use blocks::make_envp;
+use building::lines::build;
 use fields::values::number_at;
 use fields::values::rest_from;
 use fields::values::text_at;
@@ -13,7 +14,6 @@ use replies::answers::Answer;
 use replies::answers::Word;
 use sayings::brief;
 use sayings::counts_told;
-use sayings::either::make;
 use sayings::lent_told;
 use sayings::name_front;
 use sayings::of_built;
@@ -47,7 +47,7 @@ pub fn line(
     let lent = text_at(text, numbers, 3);
     let places = lend(out, spans, text_at(text, numbers, 5));
     let records = rest_from(numbers, 7);
-    let b = make(batch, force, program, records, lent, &mut out[..places]);
+    let b = build(batch, program, records, lent, force, &mut out[..places]);
     lent_told(of_built(b))
 }
 

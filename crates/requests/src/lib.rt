@@ -8,6 +8,7 @@ ghost use Rattle.rules.specs.Building.{eitherLine};
 ghost use Rattle.rules.specs.Block.{environmentBlock};
 ghost use Rattle.sayings.specs.Told.{Tells, textTold};
 use blocks::make_envp;
+use building::lines::build;
 use fields::values::number_at;
 use fields::values::rest_from;
 use fields::values::text_at;
@@ -16,7 +17,6 @@ use reading::parse_lp_cmd_line;
 use replies::answers::Answer;
 use replies::answers::Word;
 use sayings::brief;
-use sayings::either::make;
 use sayings::name_front;
 use sayings::of_built;
 use sayings::of_filled;
@@ -49,7 +49,7 @@ pub fn line(
     let force = number_at(numbers, 0) == 1;
     let program = text_at(text, numbers, 1);
     let records = rest_from(numbers, 3);
-    let s = of_built(make(batch, force, program, records, text, out));
+    let s = of_built(build(batch, program, records, text, force, out));
     name_front(spans, s.units as usize);
     text_told(s)
 }

@@ -19,8 +19,6 @@ use units::parts::smaller;
 use units::refusals::number_of;
 use units::refusals::place_of;
 
-pub mod either;
-
 // What an entry point said, in numbers: the refusal's, or 0 and the counts.
 pub struct Saying {
     pub number: u64,

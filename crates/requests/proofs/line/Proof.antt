@@ -9,13 +9,13 @@ use Rattle.requests.proofs.line.Tie as tie
 returns : tie.Need-returns
 returns c =
     let at-of-built = c .before .before .before .before .before in
-    let at-make = at-of-built .before .before .before in
-    let at-rest-from = at-make .before .before in
+    let at-build = at-of-built .before .before .before in
+    let at-rest-from = at-build .before .before in
     let at-text-at = at-rest-from .before in
     let at-number-at = at-text-at .before in
     record {
-      said = builtSaid (at-make .make .result);
-      answered = rw (← at-number-at .number-at .ensures, ← at-text-at .text-at .ensures, ← at-rest-from .rest-from .ensures) (at-make .make .ensures);
+      said = builtSaid (at-build .build .result);
+      answered = rw (← at-number-at .number-at .ensures, ← at-text-at .text-at .ensures, ← at-rest-from .rest-from .ensures) (at-build .build .ensures);
       shown = c .text-told .ensures ∙ ap textTold (at-of-built .of-built .ensures);
     }
 
