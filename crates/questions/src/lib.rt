@@ -31,13 +31,11 @@ fn ask_row(
 ) -> Answer {
     match row {
         0 => requests::read(text, numbers, out, spans),
-        1 => requests::line(false, text, numbers, out, spans),
-        2 => requests::line(true, text, numbers, out, spans),
+        1 | 2 => requests::line(row == 2, text, numbers, out, spans),
         3 => requests::env(text, numbers, out, spans),
         4 => requests::suffix(text, numbers),
         5 => requests::status(numbers, out, spans),
-        6 => loans::line(false, text, numbers, out, spans),
-        7 => loans::line(true, text, numbers, out, spans),
+        6 | 7 => loans::line(row == 7, text, numbers, out, spans),
         8 => loans::env(text, numbers, out, spans),
         9 => loans::status(text, numbers, out, spans),
         10 => loans::read(text, numbers, out, spans),
