@@ -1,5 +1,5 @@
 // A tool for a person at a terminal: command lines, batch lines and environment blocks for Windows processes, written and read.
-mod calls;
+mod writing;
 
 use console::reports;
 use console::reports::say;
@@ -23,8 +23,8 @@ fn command() -> Command {
 fn main() {
     match command() {
         Command::Read => calls::read(),
-        Command::Write => calls::line(false),
-        Command::Batch => calls::line(true),
+        Command::Write => writing::line(false),
+        Command::Batch => writing::line(true),
         Command::Env => calls::env(),
         Command::Status => calls::status(),
         Command::Suffix => calls::suffix(),

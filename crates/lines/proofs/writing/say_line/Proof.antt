@@ -1,9 +1,9 @@
--- `lines::calls::say_line` meets its contract. Assumes nothing.
+-- `lines::writing::say_line` meets its contract. Assumes nothing.
 use borrow.Author.Needs.{needs}
 use mathlib.Core.Path.{sym}
 use lib.Seq.{length-take-le}
-use Rattle.lines.proofs.calls.say_line.Statement.{statement}
-use Rattle.lines.proofs.calls.say_line.Tie as tie
+use Rattle.lines.proofs.writing.say_line.Statement.{statement}
+use Rattle.lines.proofs.writing.say_line.Tie as tie
 
 slice-aggregate-name : tie.Need-slice-aggregate-name
 slice-aggregate-name c = sym (length-take-le _ _ (c .before .before .before .pre))

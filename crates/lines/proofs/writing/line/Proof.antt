@@ -1,10 +1,10 @@
--- `lines::calls::line` meets its contract. Assumes nothing.
+-- `lines::writing::line` meets its contract. Assumes nothing.
 use borrow.Author.Needs.{needs}
 use mathlib.Core.Path.{sym}
 use native.Mathlib.Omega.{arith}
 use lib.Seq.{length-take-le}
-use Rattle.lines.proofs.calls.line.Statement.{statement}
-use Rattle.lines.proofs.calls.line.Tie as tie
+use Rattle.lines.proofs.writing.line.Statement.{statement}
+use Rattle.lines.proofs.writing.line.Tie as tie
 
 text-requires : tie.Need-text-requires
 text-requires c κs = search needs

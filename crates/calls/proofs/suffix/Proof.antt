@@ -1,10 +1,10 @@
--- `lines::calls::read` meets its contract. Assumes nothing.
+-- `calls::suffix` meets its contract. Assumes nothing.
 use borrow.Author.Needs.{needs}
 use mathlib.Core.Path.{sym}
 use native.Mathlib.Omega.{arith}
 use lib.Seq.{length-take-le}
-use Rattle.lines.proofs.calls.read.Statement.{statement}
-use Rattle.lines.proofs.calls.read.Tie as tie
+use Rattle.calls.proofs.suffix.Statement.{statement}
+use Rattle.calls.proofs.suffix.Tie as tie
 
 arg-count-requires : tie.Need-arg-count-requires
 arg-count-requires c κs = search needs
@@ -27,26 +27,28 @@ slice-aggregate-take-word c = search needs
 take-word-requires : tie.Need-take-word-requires
 take-word-requires c κs = search needs
 
+returns-2 : tie.Need-returns-2
+returns-2 c = search needs
+
 array-share-prefix-text : tie.Need-array-share-prefix-text
 array-share-prefix-text c = search needs
 
-slice-aggregate-say-read : tie.Need-slice-aggregate-say-read
-slice-aggregate-say-read c = sym (length-take-le _ (c .before .before .before .take-word .last .1 .0) (omega (arith, c .before .before .before .take-word)))
+slice-aggregate-has-bat-extension : tie.Need-slice-aggregate-has-bat-extension
+slice-aggregate-has-bat-extension c =
+    let took = c .before .before .before .before .take-word in
+    sym (length-take-le _ (took .last .1 .0) (omega (arith, took)))
 
-slice-aggregate-say-read-2 : tie.Need-slice-aggregate-say-read-2
-slice-aggregate-say-read-2 c = search needs
+has-bat-extension-requires : tie.Need-has-bat-extension-requires
+has-bat-extension-requires c κs = search needs
 
-say-read-requires : tie.Need-say-read-requires
-say-read-requires c κs = search needs
-
-returns-2 : tie.Need-returns-2
-returns-2 c = search needs
+say-suffix-requires : tie.Need-say-suffix-requires
+say-suffix-requires c κs = search needs
 
 returns-3 : tie.Need-returns-3
 returns-3 c = search needs
 
-pub read-spec : {M : Type 1} → statement M
-read-spec =
+pub suffix-spec : {M : Type 1} → statement M
+suffix-spec =
     tie.close
     (tie.spec
     arg-count-requires
@@ -56,9 +58,9 @@ read-spec =
     text-requires
     slice-aggregate-take-word
     take-word-requires
-    array-share-prefix-text
-    slice-aggregate-say-read
-    slice-aggregate-say-read-2
-    say-read-requires
     returns-2
+    array-share-prefix-text
+    slice-aggregate-has-bat-extension
+    has-bat-extension-requires
+    say-suffix-requires
     returns-3)

@@ -1,10 +1,10 @@
--- `lines::calls::env` meets its contract. Assumes nothing.
+-- `calls::env` meets its contract. Assumes nothing.
 use borrow.Author.Needs.{needs}
 use mathlib.Core.Path.{sym}
 use native.Mathlib.Omega.{arith}
 use lib.Seq.{length-take-le}
-use Rattle.lines.proofs.calls.env.Statement.{statement}
-use Rattle.lines.proofs.calls.env.Tie as tie
+use Rattle.calls.proofs.env.Statement.{statement}
+use Rattle.calls.proofs.env.Tie as tie
 
 text-requires : tie.Need-text-requires
 text-requires c κs = search needs
