@@ -11,7 +11,7 @@ use Rattle.rules.specs.Unit.{isNul, nul, equals}
 use Rattle.rules.specs.Outcome.{Fault, faultless, fault}
 use Rattle.rules.specs.Record as rules
 use Rattle.rules.specs.Record.{Entry, exceeds}
-use Rattle.blocks.specs.declared.records.EntryRecord.{EntryRecord}
+use Rattle.blocks.specs.declared.entry_records.EntryRecord.{EntryRecord}
 
 -- ---- records
 

@@ -6,8 +6,8 @@ ghost use Rattle.rules.specs.Record.{entryFault, entriesOf, entryOf};
 ghost use Rattle.rules.specs.Outcome.{firstFault};
 ghost use Rattle.rules.specs.Block.{entryNulFinding};
 ghost use Rattle.blocks.specs.Entries.{ruled, isOutside, hasNul, placed};
-use crate::records;
-use crate::records::EntryRecord;
+use crate::entry_records;
+use crate::entry_records::EntryRecord;
 use units::parts;
 
 // Whether start plus length exceeds a text's length. Both are widened first, so that their sum cannot wrap.
@@ -34,7 +34,7 @@ pub fn first_outside(records: &[u32], text: &[u16]) -> usize
     let mut at = 0;
     let mut place = 1;
     while at + 4 <= records.len() {
-        if is_outside(text, records::record_at(records, at)) {
+        if is_outside(text, entry_records::record_at(records, at)) {
             return place;
         }
         at += 4;
@@ -65,7 +65,7 @@ pub fn first_with_nul(records: &[u32], text: &[u16]) -> usize
     let mut at = 0;
     let mut place = 1;
     while at + 4 <= records.len() {
-        if has_nul(text, records::record_at(records, at)) {
+        if has_nul(text, entry_records::record_at(records, at)) {
             return place;
         }
         at += 4;

@@ -5,8 +5,8 @@ ghost use Rattle.rules.specs.Block.{environmentBlock};
 use rules::Filled;
 use rules::Refusal;
 
+mod entry_records;
 mod judging;
-mod records;
 mod writing;
 
 // Writes the environment block (Rust: `make_envp`). A refusal is decided before anything is stored.

@@ -5,8 +5,8 @@ ghost use lib.ListN.{length};
 ghost use Rattle.rules.specs.Record.{entriesOf, entryOf};
 ghost use Rattle.rules.specs.Block.{blockLimit};
 ghost use Rattle.blocks.specs.Entries.{ruled, oneEntry, Written, untilPast, blockUntilPast};
-use crate::records;
-use crate::records::EntryRecord;
+use crate::entry_records;
+use crate::entry_records::EntryRecord;
 use stores::copy_run;
 use stores::put;
 use units::parts;
@@ -38,7 +38,7 @@ fn put_entries(out: &mut [u16], records: &[u32], text: &[u16]) -> usize
     let mut to = 0;
     let mut at = 0;
     while at + 4 <= records.len() {
-        to = put_entry(out, to, text, records::record_at(records, at));
+        to = put_entry(out, to, text, entry_records::record_at(records, at));
         if BLOCK_LIMIT < to {
             return to;
         }
