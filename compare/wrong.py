@@ -6,6 +6,7 @@ Each variant is made in a scratch copy, compiled with no proof (`rt try`) and as
 everything as recorded, or the code as it stands does not.
 """
 import os
+import resource
 import shutil
 import subprocess
 import sys
@@ -56,13 +57,19 @@ def program(scratch, path, changes):
     return [os.path.join(scratch, 'tools/start'), 'answer']
 
 
+def larger_stack():
+    """What is compiled without optimisation holds each of its arrays twice."""
+    resource.setrlimit(resource.RLIMIT_STACK, (64 << 20, resource.getrlimit(resource.RLIMIT_STACK)[1]))
+
+
 def main():
     asked = open(os.path.join(ROOT, 'crates/answer/stdin')).read().split('\n')[:-1]
     recorded = open(os.path.join(ROOT, 'crates/answer/stdout')).read().split('\n')[:-1]
     status = 0
     for what, path, changes in VARIANTS:
         with tempfile.TemporaryDirectory() as scratch:
-            ran = subprocess.run(program(scratch, path, changes), input='\n'.join(asked) + '\n', capture_output=True, text=True)
+            ran = subprocess.run(program(scratch, path, changes), input='\n'.join(asked) + '\n', capture_output=True, text=True,
+                                 preexec_fn=larger_stack)
         answers = ran.stdout.split('\n')[:-1]
         answers += ['none'] * (len(asked) - len(answers))
         caught = sorted((len(q), q) for q, want, have in zip(asked, recorded, answers) if want != have)
