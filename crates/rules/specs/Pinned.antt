@@ -1,4 +1,4 @@
--- Small examples that pin what the marked ones leave open: each limit's number, each order of refusals, places, the lent memory afterwards. Assumes nothing.
+-- Small examples that pin what the marked ones leave open: each order of refusals, places, the lent memory afterwards. Assumes nothing.
 use Prim.Native.Nat.{ℕ}
 use Prim.Native.String.{String}
 use mathlib.Core.Path.{_≡_, refl}
@@ -26,18 +26,14 @@ abbrev reads : String → List String → Example
 reads line args = sequences (arguments (units line)) gives sequences (map units args)
 
 -- an executable name and lent units are read, with this much room and so many numbers in the table
-abbrev comes : List ℕ → List ℕ → ℕ → ℕ → Outcome (List (List ℕ)) → Example
+abbrev pub comes : List ℕ → List ℕ → ℕ → ℕ → Outcome (List (List ℕ)) → Example
 comes executable lent room table o = read (reading executable lent room table) gives read o
 
 -- the executable name as it is: blanks, a quote and a NUL with it
 abbrev odd-name : List ℕ
 odd-name = 97 ∷ 32 ∷ 34 ∷ 0 ∷ 98 ∷ []
 
--- so many units `a`
-abbrev many : ℕ → List ℕ
-many n = replicate n 97
-
--- reading: rules, the line's end, the executable name, limit 2, places 3, room 4 and their order
+-- reading: rules, the line's end, the executable name, places 3, room 4 and their order
 abbrev readings : List Example
 readings =
     reads "\"a b\"c d" ("a bc" ∷ "d" ∷ [])
@@ -66,12 +62,6 @@ readings =
     ∷ comes [] (units "e a") 0 1 (refused 3 0)
     ∷ comes [] (units "e a") 1 4 (refused 4 0)
     ∷ comes [] (units "e a") 2 5 (done (units "e" ∷ units "a" ∷ []))
-    ∷ comes (many 32768) [] 0 0 (refused 2 0)
-    ∷ comes (many 32767) [] 0 0 (refused 3 0)
-    ∷ comes (many 32768) (101 ∷ []) 1 2 (done ((101 ∷ []) ∷ []))
-    ∷ comes [] (many 32768) 0 0 (refused 2 0)
-    ∷ comes [] (many 32767 ++ 0 ∷ []) 0 0 (refused 3 0)
-    ∷ comes (replicate 32768 0) (0 ∷ []) 0 0 (refused 2 0)
     ∷ sequence (filled (1 ∷ 2 ∷ 3 ∷ []) (outcomeTexts (reading [] (units "e a") 3 5))) gives sequence (101 ∷ 97 ∷ 3 ∷ [])
     ∷ sequence (filled (7 ∷ 7 ∷ 7 ∷ 7 ∷ 9 ∷ []) (outcomeSpans (reading [] (units "e a") 3 5))) gives sequence (0 ∷ 1 ∷ 1 ∷ 1 ∷ 9 ∷ [])
     ∷ sequence (filled (7 ∷ 7 ∷ 7 ∷ []) (outcomeSpans (reading [] (units "e a") 3 3))) gives sequence (7 ∷ 7 ∷ 7 ∷ [])
@@ -86,14 +76,14 @@ readings =
 -- ---- ordinary lines
 
 -- a program, records and their text come to this, with this much room and quotes not forced
-abbrev builds : List ℕ → List ℕ → List ℕ → ℕ → Outcome (List ℕ) → Example
+abbrev pub builds : List ℕ → List ℕ → List ℕ → ℕ → Outcome (List ℕ) → Example
 builds program records text room o = written (commandLine false program records text room) gives written o
 
 -- an ordinary form, quotes not forced
 abbrev forms : String → String → Example
 forms arg whole = sequence (form false (units arg)) gives sequence (units whole)
 
--- ordinary lines: 1 and its place, 5 and its order, the limit 2 before the room 4, raw arguments, forms
+-- ordinary lines: 1 and its place, 5 and its order, room 4, raw arguments, forms
 abbrev buildings : List Example
 buildings =
     builds [] [] [] 2 (done (34 ∷ 34 ∷ []))
@@ -111,8 +101,6 @@ buildings =
     ∷ builds (112 ∷ []) (0 ∷ 0 ∷ 1 ∷ []) (10 ∷ []) 99 (done (34 ∷ 112 ∷ 34 ∷ 32 ∷ 10 ∷ []))
     ∷ written (commandLine true (112 ∷ []) (1 ∷ 0 ∷ 3 ∷ 1 ∷ 0 ∷ 0 ∷ []) (units "\" \\") 99) gives written (done (units "\"p\" \" \\ "))
     ∷ builds (units "a\"b") [] [] 99 (done (units "\"a\"b\""))
-    ∷ builds (many 32766) [] [] 0 (refused 2 0)
-    ∷ builds (many 32765) [] [] 32766 (refused 4 0)
     ∷ sequence (filled (7 ∷ 8 ∷ 9 ∷ []) (commandLine false [] [] [] 3)) gives sequence (34 ∷ 34 ∷ 9 ∷ [])
     ∷ sequence (filled (7 ∷ []) (commandLine false [] [] [] 1)) gives sequence (7 ∷ [])
     ∷ sequence (flatOf (wholes (argumentRecords (0 ∷ 1 ∷ 2 ∷ 1 ∷ 4 ∷ 5 ∷ 1 ∷ 7 ∷ [])))) gives sequence (0 ∷ 1 ∷ 2 ∷ 1 ∷ 4 ∷ 5 ∷ [])
@@ -127,7 +115,7 @@ buildings =
 -- ---- batch lines
 
 -- a script, records and their text come to this, with this much room and quotes not forced
-abbrev scripts : List ℕ → List ℕ → List ℕ → ℕ → Outcome (List ℕ) → Example
+abbrev pub scripts : List ℕ → List ℕ → List ℕ → ℕ → Outcome (List ℕ) → Example
 scripts script records text room o = written (batchCommandLine false script records text room) gives written o
 
 -- behind the 28 units of the front
@@ -138,7 +126,7 @@ fronted rest = done (batchFront ++ rest)
 abbrev batchForms : String → String → Example
 batchForms arg whole = sequence (batchForm false (units arg)) gives sequence (units whole)
 
--- batch lines: the final NUL, 7 before 5, 6 before 5 argument by argument, raw arguments, forms, the limit
+-- batch lines: the final NUL, 7 before 5, 6 before 5 argument by argument, raw arguments, forms
 abbrev batches : List Example
 batches =
     numbers (pos (length batchFront) ∷ []) gives numbers (pos 28 ∷ [])
@@ -169,17 +157,15 @@ batches =
     ∷ truths (map (λ x. needsBatchQuotes false (x ∷ [])) (48 ∷ 57 ∷ 65 ∷ 90 ∷ 97 ∷ 122 ∷ 160 ∷ 255 ∷ 256 ∷ 65535 ∷ [])) gives truths (replicate 10 false)
     ∷ truths (needsBatchQuotes false (units "#$*+-./:?@\\_.") ∷ needsBatchQuotes false (units "a\\") ∷ []) gives truths (false ∷ true ∷ [])
     ∷ numbers (pos (length (batchForm false (units "%%%"))) ∷ []) gives numbers (pos 26 ∷ [])
-    ∷ scripts (many 32737) [] [] 0 (refused 2 0)
-    ∷ scripts (many 32736 ++ 0 ∷ []) [] [] 0 (refused 4 0)
     ∷ []
 
 -- ---- blocks, statuses, suffixes, classes
 
 -- records and their text come to this block, with this much room
-abbrev blocks : List ℕ → List ℕ → ℕ → Outcome (List ℕ) → Example
+abbrev pub blocks : List ℕ → List ℕ → ℕ → Outcome (List ℕ) → Example
 blocks records text room o = written (environmentBlock records text room) gives written o
 
--- blocks: no entries, cut records, 1 over all before 5, key before value, `=` in a key, the limit
+-- blocks: no entries, cut records, 1 over all before 5, key before value, `=` in a key
 abbrev environments : List Example
 environments =
     blocks [] [] 2 (done (0 ∷ 0 ∷ []))
@@ -194,8 +180,6 @@ environments =
     ∷ blocks (1 ∷ 1 ∷ 1 ∷ 1 ∷ 0 ∷ 1 ∷ 0 ∷ 0 ∷ []) (0 ∷ 65 ∷ []) 0 (refused 5 2)
     ∷ blocks (0 ∷ 3 ∷ 3 ∷ 1 ∷ []) (units "=C:x") 99 (done (units "=C:=x" ++ 0 ∷ 0 ∷ []))
     ∷ blocks (1 ∷ 1 ∷ 0 ∷ 1 ∷ 0 ∷ 1 ∷ 1 ∷ 1 ∷ []) (units "ab") 9 (done (units "b=a" ++ 0 ∷ units "a=b" ++ 0 ∷ 0 ∷ []))
-    ∷ blocks (0 ∷ 65532 ∷ 0 ∷ 0 ∷ []) (many 65532) 0 (refused 4 0)
-    ∷ blocks (0 ∷ 65533 ∷ 0 ∷ 0 ∷ []) (many 65533) 0 (refused 2 0)
     ∷ sequence (filled (7 ∷ 8 ∷ []) (environmentBlock (9 ∷ []) [] 2)) gives sequence (7 ∷ 8 ∷ [])
     ∷ []
 
