@@ -8,8 +8,9 @@ use Rattle.rules.specs.Outcome.{done, refused}
 use Rattle.rules.specs.Reading.{reading}
 use Rattle.rules.specs.Building.{commandLine, batchCommandLine}
 use Rattle.rules.specs.Block.{environmentBlock}
+use Rattle.rules.specs.BlockReading.{blockReading}
 use Rattle.rules.specs.Example.{Example, computed, stated}
-use Rattle.rules.specs.Pinned.{comes, builds, scripts, blocks}
+use Rattle.rules.specs.Pinned.{comes, builds, scripts, blocks, lists}
 
 -- so many units `a`
 abbrev many : ℕ → List ℕ
@@ -30,9 +31,12 @@ limits =
     ∷ scripts (many 32736 ++ 0 ∷ []) [] [] 0 (refused 4 0)
     ∷ blocks (0 ∷ 65532 ∷ 0 ∷ 0 ∷ []) (many 65532) 0 (refused 4 0)
     ∷ blocks (0 ∷ 65533 ∷ 0 ∷ 0 ∷ []) (many 65533) 0 (refused 2 0)
+    ∷ lists (units "A=" ++ many 65531 ++ 0 ∷ 0 ∷ []) 3 (refused 3 0)
+    ∷ lists (many 65535) 0 (refused 8 1)
+    ∷ lists (many 65536) 0 (refused 2 0)
     ∷ []
 
 -- each computes to what is stated
 pub limits-hold : map computed limits ≡ map stated limits
-unfolding limits units reading commandLine batchCommandLine environmentBlock
+unfolding limits units reading commandLine batchCommandLine environmentBlock blockReading
 limits-hold = refl

@@ -12,9 +12,12 @@ use Rattle.rules.specs.declared.Filled.{Filled}
 use Rattle.rules.specs.declared.Filled.the-variants as Filled
 use Rattle.rules.specs.declared.Parsed.{Parsed}
 use Rattle.rules.specs.declared.Parsed.the-variants as Parsed
+use Rattle.rules.specs.declared.Listed.{Listed}
+use Rattle.rules.specs.declared.Listed.the-variants as Listed
 use Rattle.rules.specs.Choice.{pick}
 use Rattle.rules.specs.Outcome.{Outcome}
-use Rattle.rules.specs.Answer.{Said, refusalNumber, refusalPlace, refusalSaid, builtSaid, filledSaid, parsedSaid, Answered, Read}
+use Rattle.rules.specs.Record.{Entry}
+use Rattle.rules.specs.Answer.{Said, refusalNumber, refusalPlace, refusalSaid, builtSaid, filledSaid, parsedSaid, listedSaid, Answered, Read, Listing}
 
 -- ---- back from what is said to the answer
 
@@ -25,7 +28,8 @@ refusalOf number place =
     (pick (eqb number 2) Refusal.Length
     (pick (eqb number 3) Refusal.Places
     (pick (eqb number 4) Refusal.Room
-    (pick (eqb number 5) (Refusal.Nul place) (pick (eqb number 6) (Refusal.LineBreak place) Refusal.Script)))))
+    (pick (eqb number 5) (Refusal.Nul place)
+    (pick (eqb number 6) (Refusal.LineBreak place) (pick (eqb number 7) Refusal.Script (Refusal.Entry place)))))))
 
 -- every refusal is that of its number and its place
 pub refusal-back : (r : Refusal) → refusalOf (refusalNumber r) (refusalPlace r) ≡ r
@@ -37,6 +41,7 @@ refusal-back Refusal.Room = refl
 refusal-back (Refusal.Nul place) = refl
 refusal-back (Refusal.LineBreak place) = refl
 refusal-back Refusal.Script = refl
+refusal-back (Refusal.Entry place) = refl
 
 -- the answer of a builder of lines that says so
 unfoldable builtOf : Said → Built
@@ -50,6 +55,10 @@ filledOf s = pick (eqb (s .number) 0) (Filled.Units (s .units)) (Filled.Refused 
 unfoldable parsedOf : Said → Parsed
 parsedOf s = pick (eqb (s .number) 0) (Parsed.Arguments (s .arguments) (s .units)) (Parsed.Refused (refusalOf (s .number) (s .place)))
 
+-- the block reader's answer that says so
+unfoldable listedOf : Said → Listed
+listedOf s = pick (eqb (s .number) 0) (Listed.Entries (s .arguments) (s .units)) (Listed.Refused (refusalOf (s .number) (s .place)))
+
 -- a refusal's number is not 0
 pub some-number : (r : Refusal) → eqb (refusalNumber r) 0 ≡ false
 some-number (Refusal.Record place) = refl
@@ -59,6 +68,7 @@ some-number Refusal.Room = refl
 some-number (Refusal.Nul place) = refl
 some-number (Refusal.LineBreak place) = refl
 some-number Refusal.Script = refl
+some-number (Refusal.Entry place) = refl
 
 built-back : (r : Built) → builtOf (builtSaid r) ≡ r
 unfolding builtOf
@@ -74,6 +84,11 @@ parsed-back : (r : Parsed) → parsedOf (parsedSaid r) ≡ r
 unfolding parsedOf
 parsed-back (Parsed.Arguments count units) = refl
 parsed-back (Parsed.Refused r) = rw (some-number r, refusal-back r)
+
+listed-back : (r : Listed) → listedOf (listedSaid r) ≡ r
+unfolding listedOf
+listed-back (Listed.Entries count units) = refl
+listed-back (Listed.Refused r) = rw (some-number r, refusal-back r)
 
 -- ---- what is said names the answer
 
@@ -101,6 +116,10 @@ filled-one = named filledOf filled-back
 pub parsed-one : Telling parsedSaid
 parsed-one = named parsedOf parsed-back
 
+-- so it is for the block reader
+pub listed-one : Telling listedSaid
+listed-one = named listedOf listed-back
+
 -- ---- a contract allows one answer and one content of lent memory
 
 -- any two answers of a writer to one outcome, and what they leave of one output, are equal
@@ -122,3 +141,11 @@ OneReading o text spans =
 pub read-once : (o : Outcome (List (List ℕ))) (text spans : List ℕ) → OneReading o text spans
 read-once o text spans r r′ text′ text″ spans′ spans″ a b =
     (parsed-one r r′ (a .says ∙ sym (b .says)), a .leaves ∙ sym (b .leaves), a .tabulates ∙ sym (b .tabulates))
+
+-- any two answers of the block reader to one outcome, and what they leave of one table, are equal
+abbrev pub OneListing : Outcome (List Entry) → List ℕ → Type 0
+OneListing o spans = (r r′ : Listed) (spans′ spans″ : List ℕ) → Listing o r spans spans′ → Listing o r′ spans spans″ → (r ≡ r′) × (spans′ ≡ spans″)
+
+-- the block reader's contract allows one, whatever the outcome
+pub listed-once : (o : Outcome (List Entry)) (spans : List ℕ) → OneListing o spans
+listed-once o spans r r′ spans′ spans″ a b = (listed-one r r′ (a .says ∙ sym (b .says)), a .tabulates ∙ sym (b .tabulates))

@@ -4,6 +4,7 @@ pub mod Placed
 pub mod Equal
 pub mod Digits
 pub mod Scan
+pub mod Found
 pub mod Class
 pub mod Choice
 pub mod None
@@ -18,6 +19,10 @@ pub mod Extent
 pub mod Fault
 pub mod Order
 pub mod Finding
+pub mod Entry
+pub mod Pieces
+pub mod BadEntry
+pub mod EntrySpans
 pub mod Answer
 pub mod Front
 pub mod Span

@@ -9,7 +9,7 @@ use mathlib.Core.List.{List, [], _∷_, _++_}
 use lib.Dec.{ltb, eqb}
 use Rattle.rules.specs.Choice.{pick, any}
 use Rattle.rules.specs.Outcome.{Outcome, done, refused, refuse, Finding, Fault, faultless, fault, firstFault, unless}
-use Rattle.laws.specs.Choice.{any-behind, any-front}
+use Rattle.laws.specs.Choice.{clash, any-behind, any-front}
 use Rattle.laws.specs.Fault.{Finds, Sound, FirstWrong, whose, first-wrong, all-sound}
 
 -- ---- steps
@@ -76,10 +76,6 @@ placedOfAll [] = []
 placedOfAll (s ∷ steps) = placedOf s ++ placedOfAll steps
 
 -- ---- what can be given
-
--- a test does not both hold and fail
-clash : {B : Type 0} (b : Bool) → b ≡ true → b ≡ false → B
-clash b e f = let z : _≡_ {A = ℕ} 0 1 = cc in absurd (omega arith)
 
 -- what is given is given where there are more numbers
 wider : (n p : ℕ) (bs ps bs′ ps′ : List ℕ) → (any (eqb n) bs ≡ true → any (eqb n) bs′ ≡ true) → (any (eqb n) ps ≡ true → any (eqb n) ps′ ≡ true)

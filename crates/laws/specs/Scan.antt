@@ -150,6 +150,10 @@ leading-same p q h (x ∷ xs) = rw (h x, leading-same p q h xs)
 pub before-one : (a : ℕ) (xs : List ℕ) → before (isOneOf a a a a) xs ≡ before (isUnit a) xs
 before-one a xs = leading-same _ _ (λ x. rw (twice (isEither a a x), twice (isUnit a x))) xs
 
+-- two units looked for, each named twice
+pub before-two : (a b : ℕ) (xs : List ℕ) → before (isOneOf a b a b) xs ≡ before (isEither a b) xs
+before-two a b xs = leading-same _ _ (λ x. rw (twice (isEither a b x))) xs
+
 -- one unit looked for, named twice
 pub any-twice : (a : ℕ) (xs : List ℕ) → any (isEither a a) xs ≡ any (isUnit a) xs
 any-twice a xs = any-same (isEither a a) (isUnit a) (λ x. twice (isUnit a x)) xs

@@ -8,12 +8,16 @@ use lib.ListN.{length}
 use lib.Dec.{eqb}
 use Rattle.rules.specs.declared.Refusal.{Refusal}
 use Rattle.rules.specs.declared.Parsed.the-variants as Parsed
+use Rattle.rules.specs.declared.Listed.the-variants as Listed
 use Rattle.rules.specs.Outcome.{Outcome, done, refused}
+use Rattle.rules.specs.Record.{Entry}
 use Rattle.rules.specs.Reading.{joined, spansOf, placesOf}
-use Rattle.rules.specs.Answer.{Said, refusal, wrote, gave, refusalSaid, Answered, Read}
+use Rattle.rules.specs.BlockReading.{unitsUsed, entrySpans}
+use Rattle.rules.specs.Answer.{Said, refusal, wrote, gave, refusalSaid, Answered, Read, Listing}
 use Rattle.laws.specs.Answer.{some-number}
 use Rattle.laws.specs.Front.{Front, over-front}
 use Rattle.laws.specs.Span.{spans-length}
+use Rattle.laws.specs.EntrySpans.{entry-spans-length}
 
 -- ---- a refusal
 
@@ -44,6 +48,12 @@ pub told-unread : (o : Outcome (List (List ℕ))) {q : Refusal} {text text′ sp
 told-unread (done args) {q} a = no-result q (a .says)
 told-unread (refused number place) a = (record { number = number; place = place; decided = refl; said = a .says }, a .leaves, a .tabulates)
 
+-- a block reader that answers with a refusal leaves the table as it was
+pub told-unlisted : (o : Outcome (List Entry)) {q : Refusal} {spans spans′ : List ℕ} → Listing o (Listed.Refused q) spans spans′
+    → Refusing o q × (spans′ ≡ spans)
+told-unlisted (done entries) {q} a = no-result q (a .says)
+told-unlisted (refused number place) a = (record { number = number; place = place; decided = refl; said = a .says }, a .tabulates)
+
 -- ---- a result
 
 -- the outcome is a result of n units, which are the front of the output
@@ -59,6 +69,14 @@ pub record Giving (o : Outcome (List (List ℕ))) (count units : ℕ) (text text
   pub counted : length args ≡ count
   pub texts : Front units (joined args) text text′
   pub table : Front (2 * count) (spansOf args) spans spans′
+
+-- the outcome is a list of entries that take so many units; their spans are the front of the table
+pub record Naming (o : Outcome (List Entry)) (count units : ℕ) (spans spans′ : List ℕ) : Type 0 where
+  pub entries : List Entry
+  pub made : o ≡ done entries
+  pub counted : length entries ≡ count
+  pub used : unitsUsed entries ≡ units
+  pub table : Front (4 * count) (entrySpans entries) spans spans′
 
 -- a writer that answers with a count wrote so many units, where no refusal has the number 0 and a result has room
 pub told-written : (o : Outcome (List ℕ)) {n : ℕ} {before after : List ℕ} → ((place : ℕ) → ¬ (o ≡ refused 0 place))
@@ -87,5 +105,23 @@ told-given (done args) {count} {units} {text} {spans = spans} never fits a =
       table = rw (e, a .tabulates, ← spans-length 0 args) (over-front spans (spansOf args) wide);
     }
 told-given (refused number place) never fits a =
+    let e : 0 ≡ number = ap (λ (s : Said). s .number) (a .says) in
+    absurd (never place (rw (← e)))
+
+-- and the block reader
+pub told-listed : (o : Outcome (List Entry)) {count units : ℕ} {spans spans′ : List ℕ} → ((place : ℕ) → ¬ (o ≡ refused 0 place))
+    → ((entries : List Entry) → o ≡ done entries → 2 * length entries ≤ placesOf (length spans))
+    → Listing o (Listed.Entries count units) spans spans′ → Naming o count units spans spans′
+told-listed (done entries) {count} {spans = spans} never fits a =
+    let e : count ≡ length entries = ap (λ (s : Said). s .arguments) (a .says) in
+    let wide : length (entrySpans entries) ≤ length spans = rw (entry-spans-length 0 entries) (omega (arith, fits entries refl)) in
+    record {
+      entries = entries;
+      made = refl;
+      counted = sym e;
+      used = sym (ap (λ (s : Said). s .units) (a .says));
+      table = rw (e, a .tabulates, ← entry-spans-length 0 entries) (over-front spans (entrySpans entries) wide);
+    }
+told-listed (refused number place) never fits a =
     let e : 0 ≡ number = ap (λ (s : Said). s .number) (a .says) in
     absurd (never place (rw (← e)))

@@ -11,10 +11,14 @@ use Rattle.rules.specs.declared.Filled.{Filled}
 use Rattle.rules.specs.declared.Filled.the-variants as Filled
 use Rattle.rules.specs.declared.Parsed.{Parsed}
 use Rattle.rules.specs.declared.Parsed.the-variants as Parsed
+use Rattle.rules.specs.declared.Listed.{Listed}
+use Rattle.rules.specs.declared.Listed.the-variants as Listed
 use Rattle.rules.specs.Outcome.{Outcome, done, refused, filled}
+use Rattle.rules.specs.Record.{Entry}
 use Rattle.rules.specs.Reading.{joined, spansOf}
+use Rattle.rules.specs.BlockReading.{unitsUsed, entrySpans}
 
--- the refusal's number (0 where there is none), its place, and the counts of arguments and of units
+-- the refusal's number (0 where there is none), its place, and the counts of arguments (of a block's entries) and of units
 pub record Said : Type 0 where
   pub number : ℕ
   pub place : ℕ
@@ -45,6 +49,11 @@ abbrev pub argumentsSaid : Outcome (List (List ℕ)) → Said
 argumentsSaid (done args) = gave (length args) (length (joined args))
 argumentsSaid (refused number place) = refusal number place
 
+-- the outcome of reading a block: "the count used is reported"
+abbrev pub entriesSaid : Outcome (List Entry) → Said
+entriesSaid (done entries) = gave (length entries) (unitsUsed entries)
+entriesSaid (refused number place) = refusal number place
+
 -- ---- what an answer says: the one place where the enums' cases get the document's numbers
 
 -- the number of each refusal
@@ -56,8 +65,9 @@ refusalNumber Refusal.Room = 4
 refusalNumber (Refusal.Nul place) = 5
 refusalNumber (Refusal.LineBreak place) = 6
 refusalNumber Refusal.Script = 7
+refusalNumber (Refusal.Entry place) = 8
 
--- its place: that of a record, else 0
+-- its place: that of a record or an entry, else 0
 abbrev pub refusalPlace : Refusal → ℕ
 refusalPlace (Refusal.Record place) = place
 refusalPlace Refusal.Length = 0
@@ -66,6 +76,7 @@ refusalPlace Refusal.Room = 0
 refusalPlace (Refusal.Nul place) = place
 refusalPlace (Refusal.LineBreak place) = place
 refusalPlace Refusal.Script = 0
+refusalPlace (Refusal.Entry place) = place
 
 -- a refusal says its number and its place
 abbrev pub refusalSaid : Refusal → Said
@@ -85,6 +96,11 @@ filledSaid (Filled.Refused r) = refusalSaid r
 abbrev pub parsedSaid : Parsed → Said
 parsedSaid (Parsed.Arguments count units) = gave count units
 parsedSaid (Parsed.Refused r) = refusalSaid r
+
+-- the answer of the block reader
+abbrev pub listedSaid : Listed → Said
+listedSaid (Listed.Entries count units) = gave count units
+listedSaid (Listed.Refused r) = refusalSaid r
 
 -- ---- contracts
 
@@ -108,3 +124,13 @@ pub record Read (o : Outcome (List (List ℕ))) (r : Parsed) (text text′ spans
   pub says : parsedSaid r ≡ argumentsSaid o
   pub leaves : text′ ≡ filled text (outcomeTexts o)
   pub tabulates : spans′ ≡ filled spans (outcomeSpans o)
+
+-- the numbers that an outcome of reading a block puts into the span table
+abbrev pub outcomeEntrySpans : Outcome (List Entry) → Outcome (List ℕ)
+outcomeEntrySpans (done entries) = done (entrySpans entries)
+outcomeEntrySpans (refused number place) = refused number place
+
+-- the answer says what the outcome says, and the span table holds afterwards what the outcome leaves in it
+pub record Listing (o : Outcome (List Entry)) (r : Listed) (spans spans′ : List ℕ) : Type 0 where
+  pub says : listedSaid r ≡ entriesSaid o
+  pub tabulates : spans′ ≡ filled spans (outcomeEntrySpans o)

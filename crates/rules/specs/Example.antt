@@ -4,6 +4,7 @@ use mathlib.Core.Bool.{Bool}
 use mathlib.Core.List.{List}
 use lib.IntN.{ℤ}
 use Rattle.rules.specs.Outcome.{Outcome}
+use Rattle.rules.specs.Record.{Entry}
 
 -- what can be shown of a definition
 pub data Shown : Type 0 where
@@ -11,6 +12,7 @@ pub data Shown : Type 0 where
   sequences : List (List ℕ) → Shown
   written : Outcome (List ℕ) → Shown
   read : Outcome (List (List ℕ)) → Shown
+  listed : Outcome (List Entry) → Shown
   truths : List Bool → Shown
   numbers : List ℤ → Shown
 

@@ -7,6 +7,7 @@ pub mod Batch
 pub mod Reading
 pub mod Building
 pub mod Block
+pub mod BlockReading
 pub mod Status
 pub mod Suffix
 pub mod Answer

@@ -8,16 +8,17 @@ use lib.ListN.{length, replicate}
 use lib.IntN.{pos, negℤ}
 use Rattle.rules.specs.Unit.{units, classOf}
 use Rattle.rules.specs.Outcome.{Outcome, done, refused, filled}
-use Rattle.rules.specs.Record.{argumentRecords, flatOf, wholes}
+use Rattle.rules.specs.Record.{argumentRecords, flatOf, wholes, Entry}
 use Rattle.rules.specs.Quoting.{form}
 use Rattle.rules.specs.Batch.{batchForm, needsBatchQuotes}
 use Rattle.rules.specs.Reading.{arguments, reading, argumentPart}
 use Rattle.rules.specs.Building.{commandLine, batchCommandLine, batchFront}
 use Rattle.rules.specs.Block.{environmentBlock}
+use Rattle.rules.specs.BlockReading.{blockReading, unitsUsed}
 use Rattle.rules.specs.Status.{statusText, statusFront, statusOutcome, signedCode}
 use Rattle.rules.specs.Suffix.{hasBatchSuffix}
-use Rattle.rules.specs.Answer.{outcomeTexts, outcomeSpans}
-use Rattle.rules.specs.Example.{Example, sequence, sequences, written, read, truths, numbers, _gives_, computed, stated}
+use Rattle.rules.specs.Answer.{outcomeTexts, outcomeSpans, outcomeEntrySpans}
+use Rattle.rules.specs.Example.{Example, sequence, sequences, written, read, listed, truths, numbers, _gives_, computed, stated}
 
 -- ---- reading
 
@@ -183,6 +184,47 @@ environments =
     ∷ sequence (filled (7 ∷ 8 ∷ []) (environmentBlock (9 ∷ []) [] 2)) gives sequence (7 ∷ 8 ∷ [])
     ∷ []
 
+-- an entry
+abbrev entry : String → String → Entry
+entry key value = record { key = units key; value = units value }
+
+-- a slice, with so many numbers in the table, is read as this
+abbrev pub lists : List ℕ → ℕ → Outcome (List Entry) → Example
+lists lent table o = listed (blockReading lent table) gives listed o
+
+-- `A=b`, `C=d`, each with its NUL
+abbrev two-entries : List ℕ
+two-entries = units "A=b" ++ 0 ∷ units "C=d" ++ 0 ∷ []
+
+-- blocks read: no entries, where an entry splits, each cause of 8 and its place, 8 before 3, table and units used
+abbrev listings : List Example
+listings =
+    lists (0 ∷ 0 ∷ []) 0 (done [])
+    ∷ lists [] 0 (refused 8 1)
+    ∷ lists (0 ∷ []) 0 (refused 8 1)
+    ∷ lists (0 ∷ 65 ∷ []) 0 (refused 8 1)
+    ∷ lists (0 ∷ 65 ∷ 61 ∷ 0 ∷ 0 ∷ []) 9 (refused 8 1)
+    ∷ lists (0 ∷ 0 ∷ 65 ∷ []) 0 (done [])
+    ∷ lists (units "=C:=x" ++ 0 ∷ 0 ∷ []) 4 (done (entry "=C:" "x" ∷ []))
+    ∷ lists (units "==" ++ 0 ∷ 0 ∷ []) 4 (done (entry "=" "" ∷ []))
+    ∷ lists (units "==x" ++ 0 ∷ 0 ∷ []) 4 (done (entry "=" "x" ∷ []))
+    ∷ lists (units "A==x=" ++ 0 ∷ 0 ∷ []) 5 (done (entry "A" "=x=" ∷ []))
+    ∷ lists (units "=" ++ 0 ∷ 0 ∷ []) 4 (refused 8 1)
+    ∷ lists (units "=x" ++ 0 ∷ 0 ∷ []) 4 (refused 8 1)
+    ∷ lists (units "A" ++ 0 ∷ 0 ∷ []) 4 (refused 8 1)
+    ∷ lists (units "A=") 4 (refused 8 1)
+    ∷ lists (units "A=" ++ 0 ∷ []) 4 (refused 8 2)
+    ∷ lists (units "A=" ++ 0 ∷ units "B") 8 (refused 8 2)
+    ∷ lists (units "A=" ++ 0 ∷ units "B" ++ 0 ∷ []) 0 (refused 8 2)
+    ∷ lists (two-entries ++ 0 ∷ units "rest") 8 (done (entry "A" "b" ∷ entry "C" "d" ∷ []))
+    ∷ lists (two-entries ++ 0 ∷ []) 7 (refused 3 0)
+    ∷ lists two-entries 7 (refused 8 3)
+    ∷ sequence (filled (replicate 9 7) (outcomeEntrySpans (blockReading (units "=C:=x" ++ 0 ∷ units "K=" ++ 0 ∷ 0 ∷ 5 ∷ []) 9)))
+    gives sequence (0 ∷ 3 ∷ 4 ∷ 1 ∷ 6 ∷ 1 ∷ 8 ∷ 0 ∷ 7 ∷ [])
+    ∷ sequence (filled (7 ∷ 7 ∷ []) (outcomeEntrySpans (blockReading (units "A=" ++ 0 ∷ 0 ∷ []) 2))) gives sequence (7 ∷ 7 ∷ [])
+    ∷ sequence (unitsUsed [] ∷ unitsUsed (entry "=C:" "x" ∷ entry "K" "" ∷ []) ∷ []) gives sequence (2 ∷ 10 ∷ [])
+    ∷ []
+
 -- a child status has this text
 abbrev statusReads : ℕ → String → Example
 statusReads status text = sequence (statusText status) gives sequence (units text)
@@ -222,10 +264,10 @@ classes =
 -- all of them
 unfoldable pub pinned : List Example
 unfolding units batchFront statusFront
-pinned = readings ++ buildings ++ batches ++ environments ++ statuses ++ suffixes ++ classes
+pinned = readings ++ buildings ++ batches ++ environments ++ listings ++ statuses ++ suffixes ++ classes
 
 -- each computes to what the document says
 pub pinned-hold : map computed pinned ≡ map stated pinned
 unfolding pinned units argumentRecords wholes flatOf arguments reading argumentPart form commandLine batchForm needsBatchQuotes batchFront batchCommandLine
-    environmentBlock statusFront statusText statusOutcome signedCode hasBatchSuffix classOf
+    environmentBlock blockReading statusFront statusText statusOutcome signedCode hasBatchSuffix classOf
 pinned-hold = refl

@@ -20,12 +20,12 @@ exceeds text start size = ltb (length text) (start + size)
 
 -- ---- records in a flat list
 
--- what stands in a flat list: a whole record, or a cut one where the list ends inside it
+-- what stands in a lent list: a whole record or entry, or a cut one where the list ends inside it
 pub data Lent (A : Type 0) : Type 0 where
   whole : A → Lent A
   cut : Lent A
 
--- the whole records
+-- the whole ones
 unfoldable pub wholes : {A : Type 0} → List (Lent A) → List A
 wholes [] = []
 wholes (whole a ∷ more) = a ∷ wholes more

@@ -8,7 +8,7 @@ pub struct Arg {
 }
 
 // A refusal, by name. Its number is given by `refusalSaid` (specs/Answer.antt). The field is the place: the index of
-// the record at fault plus 1, or 0 where no record is.
+// the record or entry at fault plus 1, or 0 where none is.
 pub enum Refusal {
     Record(usize),
     Length,
@@ -17,6 +17,7 @@ pub enum Refusal {
     Nul(usize),
     LineBreak(usize),
     Script,
+    Entry(usize),
 }
 
 // The answer of a builder of lines: how many units the line has, or why none was written.
@@ -34,5 +35,11 @@ pub enum Filled {
 // The answer of the reader: how many arguments and text units it wrote, or why it wrote none.
 pub enum Parsed {
     Arguments { count: usize, units: usize },
+    Refused(Refusal),
+}
+
+// The answer of the block reader: how many entries it listed and how many units of the block they take, or why it listed none.
+pub enum Listed {
+    Entries { count: usize, units: usize },
     Refused(Refusal),
 }

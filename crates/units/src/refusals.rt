@@ -16,10 +16,11 @@ pub fn number_of(r: Refusal) -> u32
         Refusal::Nul(_) => 5,
         Refusal::LineBreak(_) => 6,
         Refusal::Script => 7,
+        Refusal::Entry(_) => 8,
     }
 }
 
-// The refusal's place: the index of the record at fault plus 1, else 0.
+// The refusal's place: the index of the record or entry at fault plus 1, else 0.
 pub fn place_of(r: Refusal) -> usize
     ensures { λ n. ⌜ n ≡ refusalPlace r ⌝ }
 {
@@ -31,6 +32,7 @@ pub fn place_of(r: Refusal) -> usize
         Refusal::Nul(place) => place,
         Refusal::LineBreak(place) => place,
         Refusal::Script => 0,
+        Refusal::Entry(place) => place,
     }
 }
 
@@ -45,6 +47,7 @@ pub fn refusal_of(number: u32, place: usize) -> Refusal
         4 => Refusal::Room,
         5 => Refusal::Nul(place),
         6 => Refusal::LineBreak(place),
-        _ => Refusal::Script,
+        7 => Refusal::Script,
+        _ => Refusal::Entry(place),
     }
 }

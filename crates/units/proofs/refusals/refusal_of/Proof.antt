@@ -30,11 +30,32 @@ returns-6 c = rw (c .match .keys6)
 
 returns-7 : tie.Need-returns-7
 unfolding refusalOf
-returns-7 c =
+returns-7 c = rw (c .match .keys7)
+
+returns-8 : tie.Need-returns-8
+unfolding refusalOf
+returns-8 c =
     let n = c .before .args .number in
     let r = c .match .rest in
-    rw (ne-eqb n 1 (r .0 .0 .0 .0 .0 .1), ne-eqb n 2 (r .0 .0 .0 .0 .1), ne-eqb n 3 (r .0 .0 .0 .1), ne-eqb n 4 (r .0 .0 .1), ne-eqb n 5 (r .0 .1), ne-eqb n 6 (r .1))
+    rw (
+      ne-eqb n 1 (r .0 .0 .0 .0 .0 .0 .1),
+      ne-eqb n 2 (r .0 .0 .0 .0 .0 .1),
+      ne-eqb n 3 (r .0 .0 .0 .0 .1),
+      ne-eqb n 4 (r .0 .0 .0 .1),
+      ne-eqb n 5 (r .0 .0 .1),
+      ne-eqb n 6 (r .0 .1),
+      ne-eqb n 7 (r .1),
+    )
 
 pub refusal-of-spec : {M : Type 1} → statement M
 refusal-of-spec =
-    tie.close (tie.spec returns returns-2 returns-3 returns-4 returns-5 returns-6 returns-7)
+    tie.close
+    (tie.spec
+    returns
+    returns-2
+    returns-3
+    returns-4
+    returns-5
+    returns-6
+    returns-7
+    returns-8)
