@@ -182,6 +182,28 @@ pub fn find_nul(units: &[u16]) -> usize
     find_any(units, 0, 0, 0, 0)
 }
 
+// The index of the first unit that is a or b, or the length where there is none, one unit after another: for what is near.
+pub fn find_near(units: &[u16], a: u16, b: u16) -> usize
+    ensures { λ r. ⌜ r ≡ before (isEither a b) (now (units .entry)) ⌝ }
+{
+    find_slowly(units, a, b, a, b)
+}
+
+// The index of the first NUL, or the length where there is none, by eights from the first unit on: for what is far. The loop is its own, because the one
+// for any four units is compiled once and compares with all four.
+pub fn find_far_nul(units: &[u16]) -> usize
+    ensures { λ r. ⌜ r ≡ before isNul (now (units .entry)) ⌝ }
+{
+    let mut i = 0;
+    while i + 8 <= units.len() {
+        if eight_have(units, i, 0) {
+            return i + find_slowly(&units[i..], 0, 0, 0, 0);
+        }
+        i += 8;
+    }
+    i + find_slowly(&units[i..], 0, 0, 0, 0)
+}
+
 // How many blanks the rest of a line starts with.
 pub fn blanks(rest: &[u16]) -> usize
     ensures { λ r. ⌜ r ≡ leading isBlank (now (rest .entry)) ⌝ }
