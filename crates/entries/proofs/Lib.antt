@@ -1,0 +1,3 @@
+pub mod Marking
+pub mod Passing
+pub mod Answering
