@@ -7,18 +7,23 @@ use lib.ListN.{length}
 use Rattle.rules.specs.declared.Refusal.{Refusal}
 use Rattle.rules.specs.declared.Parsed.{Parsed}
 use Rattle.rules.specs.declared.Parsed.the-variants as Parsed
+use Rattle.rules.specs.declared.Listed.{Listed}
+use Rattle.rules.specs.declared.Listed.the-variants as Listed
 use Rattle.rules.specs.Outcome.{Outcome, refused}
-use Rattle.rules.specs.Answer.{Said, refusal, wrote, refusalSaid, parsedSaid, Answered, Read}
+use Rattle.rules.specs.Record.{Entry}
+use Rattle.rules.specs.Answer.{Said, refusal, wrote, refusalSaid, parsedSaid, listedSaid, Answered, Read, Listing}
 use Rattle.rules.specs.Building.{commandLine, batchCommandLine}
 use Rattle.rules.specs.Block.{environmentBlock}
 use Rattle.rules.specs.Status.{statusOutcome}
 use Rattle.rules.specs.Reading.{reading}
-use Rattle.laws.specs.Told.{Refusing, told-refused, told-unread, Writing, Giving, told-written, told-given}
+use Rattle.rules.specs.BlockReading.{blockReading}
+use Rattle.laws.specs.Told.{Refusing, told-refused, told-unread, told-unlisted, Writing, Giving, Naming, told-written, told-given, told-listed}
 use Rattle.promises.specs.Line.{line-numbered, line-whole}
 use Rattle.promises.specs.BatchLine.{batch-numbered, batch-whole}
 use Rattle.promises.specs.Block.{block-numbered, block-whole}
 use Rattle.promises.specs.Status.{status-numbered, status-whole}
 use Rattle.promises.specs.Reading.{read-numbered, read-whole}
+use Rattle.promises.specs.BlockReading.{entries-numbered, entries-whole}
 
 -- ---- refusals, whichever the entry point
 
@@ -32,6 +37,11 @@ pub read-refusal-keeps : {number place : ℕ} {r : Parsed} {text text′ spans s
     → (parsedSaid r ≡ refusal number place) × (text′ ≡ text) × (spans′ ≡ spans)
 read-refusal-keeps a = (a .says, a .leaves, a .tabulates)
 
+-- where the block reader's outcome is a refusal, the answer says it with counts 0, and no table place changes
+pub entries-refusal-keeps : {number place : ℕ} {r : Listed} {spans spans′ : List ℕ} → Listing (refused number place) r spans spans′
+    → (listedSaid r ≡ refusal number place) × (spans′ ≡ spans)
+entries-refusal-keeps a = (a .says, a .tabulates)
+
 -- a writer that answers with a refusal was refused by that number at that place, and no lent unit has changed
 pub refused-answer : {o : Outcome (List ℕ)} {q : Refusal} {before after : List ℕ} → Answered o (refusalSaid q) before after
     → Refusing o q × (after ≡ before)
@@ -41,6 +51,11 @@ refused-answer {o} a = told-refused o a
 pub read-refused-answer : {o : Outcome (List (List ℕ))} {q : Refusal} {text text′ spans spans′ : List ℕ}
     → Read o (Parsed.Refused q) text text′ spans spans′ → Refusing o q × (text′ ≡ text) × (spans′ ≡ spans)
 read-refused-answer {o} a = told-unread o a
+
+-- and so is a block reader
+pub entries-refused-answer : {o : Outcome (List Entry)} {q : Refusal} {spans spans′ : List ℕ} → Listing o (Listed.Refused q) spans spans′
+    → Refusing o q × (spans′ ≡ spans)
+entries-refused-answer {o} a = told-unlisted o a
 
 -- ---- results
 
@@ -77,3 +92,9 @@ parse-answer executable lent {text = text} {spans = spans} a =
     (read-numbered executable lent (length text) (length spans))
     (λ args e. let (fits, places, _) = read-whole executable lent (length text) (length spans) args e in (fits, places))
     a
+
+-- read_envp: the answer counts entries and the units used; the spans are the front of the table, and the rest is kept
+pub entries-answer : (lent : List ℕ) {count units : ℕ} {spans spans′ : List ℕ} → let o = blockReading lent (length spans) in
+    Listing o (Listed.Entries count units) spans spans′ → Naming o count units spans spans′
+entries-answer lent {spans = spans} a =
+    told-listed _ (entries-numbered lent (length spans)) (λ entries e. entries-whole lent (length spans) entries e .0) a

@@ -1,4 +1,4 @@
--- The reader, the line builders and the block builder, as worthless programs are judged: what can be lent, and what is merely copied. Assumes nothing.
+-- The readers, the line builders and the block builder, as worthless programs are judged: what can be lent, and what is merely copied. Assumes nothing.
 use Prim.Native.Nat.{ℕ, _+_, _<_}
 use mathlib.Core.Path.{_≡_}
 use mathlib.Core.Bool.{Bool, false}
@@ -8,6 +8,7 @@ use lib.ListN.{length}
 use Rattle.rules.specs.declared.Built.{Built}
 use Rattle.rules.specs.declared.Filled.{Filled}
 use Rattle.rules.specs.declared.Parsed.{Parsed}
+use Rattle.rules.specs.declared.Listed.{Listed}
 use Rattle.rules.specs.Choice.{any}
 use Rattle.rules.specs.Unit.{nul}
 use Rattle.rules.specs.Outcome.{Outcome, done, over}
@@ -15,7 +16,9 @@ use Rattle.rules.specs.Record.{part, Argument, raw, argumentsOf, Entry, entries
 use Rattle.rules.specs.Building.{line, commandLine, scriptOf, batchLine, batchCommandLine}
 use Rattle.rules.specs.Block.{entryUnits, block, environmentBlock}
 use Rattle.rules.specs.Reading.{argumentsRead, reading, argumentPart}
-use Rattle.rules.specs.Answer.{Said, unitsSaid, argumentsSaid, builtSaid, filledSaid, parsedSaid, Answered, Read}
+use Rattle.rules.specs.BlockReading.{entriesRead, entrySize, entrySpans, blockReading}
+use Rattle.rules.specs.Answer.{Said, unitsSaid, argumentsSaid, entriesSaid, builtSaid, filledSaid, parsedSaid, listedSaid, Answered, Read, Listing}
+use Rattle.laws.specs.Entry.{textOf}
 use Rattle.promises.specs.Worthless.{EntryPoint}
 
 -- ---- what can be lent
@@ -55,7 +58,14 @@ pub record ToFill : Type 0 where
   pub in-units : AreUnits (text ++ out)
   pub in-numbers : AreNumbers records
 
--- ---- the reader
+-- to the block reader: the units of the block, and the span table
+pub record ToList : Type 0 where
+  pub lent : List ℕ
+  pub spans : List ℕ
+  pub in-units : AreUnits lent
+  pub in-numbers : AreNumbers spans
+
+-- ---- the readers
 
 -- a part of the lent units as it stands
 abbrev pub IsPart : List ℕ → List ℕ → Type 0
@@ -73,6 +83,30 @@ reader =
       Promised = λ x r m. Read (reading (x .executable) (x .lent) (length (x .text)) (length (x .spans))) r (x .text) (m .0) (x .spans) (m .1);
       counted = λ x. argumentsSaid (done (argumentsRead (x .executable) (x .lent)));
       Copied = λ x m. (i : ℕ) → i + 1 < length (argumentsRead (x .executable) (x .lent)) → IsPart (x .lent) (argumentPart (m .0) (m .1) (i + 1));
+    }
+
+-- the spans of entries that are not split: each stands whole in its key
+abbrev pub unsplit-spans : ℕ → List Entry → List ℕ
+unsplit-spans start [] = []
+unsplit-spans start (e ∷ more) = start ∷ length (textOf e) ∷ (start + length (textOf e)) ∷ 0 ∷ unsplit-spans (start + entrySize e) more
+
+-- the spans of entries of which the first alone is split
+abbrev pub rest-unsplit : List Entry → List ℕ
+rest-unsplit [] = []
+rest-unsplit (e ∷ more) = entrySpans (e ∷ []) ++ unsplit-spans (entrySize e) more
+
+-- read_envp; it merely copies where it names each entry behind the first as it stands
+abbrev pub block-reader : EntryPoint
+block-reader =
+    record {
+      Input = ToList;
+      Answer = Listed;
+      Memory = List ℕ;
+      held = λ x. x .spans;
+      said = listedSaid;
+      Promised = λ x r spans′. Listing (blockReading (x .lent) (length (x .spans))) r (x .spans) spans′;
+      counted = λ x. entriesSaid (done (entriesRead (x .lent)));
+      Copied = λ x spans′. spans′ ≡ over (x .spans) (rest-unsplit (entriesRead (x .lent)));
     }
 
 -- ---- the builders

@@ -3,6 +3,8 @@ pub mod Records
 pub mod Line
 pub mod BatchLine
 pub mod Block
+pub mod BlockReading
+pub mod BlockTrip
 pub mod Status
 pub mod Reading
 pub mod Answers

@@ -9,20 +9,23 @@ use lib.Seq.{drop-nil}
 use Rattle.rules.specs.declared.Built.the-variants as Built
 use Rattle.rules.specs.declared.Filled.the-variants as Filled
 use Rattle.rules.specs.declared.Parsed.the-variants as Parsed
+use Rattle.rules.specs.declared.Listed.the-variants as Listed
 use Rattle.rules.specs.Unit.{units, nul}
 use Rattle.rules.specs.Outcome.{Outcome, done, refused, over, filled}
 use Rattle.rules.specs.Building.{line, commandLine, scriptOf, batchLine, batchCommandLine}
 use Rattle.rules.specs.Block.{entryUnits, block, environmentBlock}
 use Rattle.rules.specs.Reading.{argumentsRead, reading, argumentPart}
-use Rattle.rules.specs.Answer.{Said, refusal, unitsSaid, argumentsSaid}
-use Rattle.laws.specs.Answer.{Telling, built-one, filled-one, answered-once, read-once}
+use Rattle.rules.specs.BlockReading.{entriesRead, blockReading}
+use Rattle.rules.specs.Answer.{Said, refusal, unitsSaid, argumentsSaid, entriesSaid}
+use Rattle.laws.specs.Answer.{Telling, built-one, filled-one, answered-once, read-once, listed-once}
 use Rattle.laws.specs.Equal.{equal, not-one}
 use Rattle.promises.specs.Line.{line-numbered, line-whole}
 use Rattle.promises.specs.BatchLine.{batch-numbered, batch-whole}
 use Rattle.promises.specs.Block.{block-numbered, block-whole}
 use Rattle.promises.specs.Reading.{read-numbered, read-whole}
+use Rattle.promises.specs.BlockReading.{entries-numbered, entries-whole}
 use Rattle.promises.specs.Worthless.{AdmitsNone, Trial, Tried, tried-admits-none}
-use Rattle.promises.specs.EntryPoints.{ToRead, ToBuild, ToFill, IsPart, reader, Writer, writing, line-builder, batch-builder, block-builder}
+use Rattle.promises.specs.EntryPoints.{ToRead, ToList, ToBuild, ToFill, IsPart, reader, block-reader, Writer, writing, line-builder, batch-builder, block-builder}
 
 -- what is said with the number 0 is what the whole result says, where no refusal has that number
 counts-of : {A : Type 0} {whole : A} {said : Said} (told : Outcome A → Said) → ((number place : ℕ) → told (refused number place) ≡ refusal number place)
@@ -33,7 +36,7 @@ counts-of told plain (refused number place) numbered made e z =
     let f : number ≡ 0 = sym (ap (λ (s : Said). s .number) (e ∙ plain number place)) ∙ z in
     absurd (numbered place (rw f))
 
--- ---- the reader
+-- ---- the readers
 
 -- `x a"b`, whose last argument is no part of it
 unfoldable quoted : ToRead
@@ -88,6 +91,46 @@ reader-tried =
       unlike = λ e. not-one (ap (λ (m : List ℕ × List ℕ). m .0) e) refl;
       changed = λ e. not-one (ap (λ (m : List ℕ × List ℕ). m .0) e) refl;
       uncopied = λ h. not-part (h 0 (omega arith));
+    }
+
+-- `A=` and `B=c`
+unfoldable two-listed : ToList
+unfolding units
+two-listed = record { lent = units "A=" ++ nul ∷ units "B=c" ++ nul ∷ nul ∷ []; spans = replicate 8 0; in-units = refl; in-numbers = refl }
+
+-- `B=` alone
+unfoldable one-listed : ToList
+unfolding units
+one-listed = record { lent = units "B=" ++ nul ∷ nul ∷ []; spans = replicate 8 0; in-units = refl; in-numbers = refl }
+
+block-reader-tried : Tried block-reader
+unfolding units blockReading entriesRead two-listed one-listed equal
+block-reader-tried =
+    record {
+      once = λ x. listed-once _ (x .spans);
+      counts = λ x r m a z.
+          counts-of entriesSaid (λ number place. refl) _
+          (entries-numbered (x .lent) (length (x .spans)))
+          (λ result e. entries-whole (x .lent) (length (x .spans)) result e .1)
+          (a .says) z;
+      first = record {
+        lent = two-listed;
+        answer = Listed.Entries 2 8;
+        after = 0 ∷ 1 ∷ 2 ∷ 0 ∷ 3 ∷ 1 ∷ 5 ∷ 1 ∷ [];
+        right = record { says = refl; tabulates = refl };
+        accepted = refl;
+      };
+      second = record {
+        lent = one-listed;
+        answer = Listed.Entries 1 4;
+        after = 0 ∷ 1 ∷ 2 ∷ 0 ∷ replicate 4 0;
+        right = record { says = refl; tabulates = refl };
+        accepted = refl;
+      };
+      together = refl;
+      unlike = λ e. not-one e refl;
+      changed = λ e. not-one e refl;
+      uncopied = λ e. not-one e refl;
     }
 
 -- ---- the builders
@@ -182,6 +225,10 @@ block-tried =
 -- the contract of parse_lp_cmd_line admits none
 pub reader-admits-none : AdmitsNone reader
 reader-admits-none = tried-admits-none reader-tried
+
+-- the contract of read_envp admits none
+pub block-reader-admits-none : AdmitsNone block-reader
+block-reader-admits-none = tried-admits-none block-reader-tried
 
 -- the contract of make_command_line admits none
 pub line-admits-none : AdmitsNone (writing line-builder)

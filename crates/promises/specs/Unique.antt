@@ -7,8 +7,9 @@ use Rattle.rules.specs.Building.{commandLine, batchCommandLine}
 use Rattle.rules.specs.Block.{environmentBlock}
 use Rattle.rules.specs.Status.{statusOutcome}
 use Rattle.rules.specs.Reading.{reading}
+use Rattle.rules.specs.BlockReading.{blockReading}
 use Rattle.rules.specs.Answer.{builtSaid, filledSaid}
-use Rattle.laws.specs.Answer.{OneAnswer, OneReading, built-one, filled-one, answered-once, read-once}
+use Rattle.laws.specs.Answer.{OneAnswer, OneReading, OneListing, built-one, filled-one, answered-once, read-once, listed-once}
 
 -- make_command_line: one answer, and one content of the output
 pub line-once : (force : Bool) (program records text before : List ℕ) → OneAnswer builtSaid (commandLine force program records text (length before)) before
@@ -29,3 +30,7 @@ status-once status before = answered-once filled-one _ before
 -- parse_lp_cmd_line: one answer, and one content of output and span table
 pub parse-once : (executable lent text spans : List ℕ) → OneReading (reading executable lent (length text) (length spans)) text spans
 parse-once executable lent text spans = read-once _ text spans
+
+-- read_envp: one answer, and one content of the span table
+pub entries-once : (lent spans : List ℕ) → OneListing (blockReading lent (length spans)) spans
+entries-once lent spans = listed-once _ spans
