@@ -11,9 +11,9 @@
  * What is answered
  *     A function that can refuse returns 0 for an answer, else the refusal's number. Every call fills answer[4], which is how it answers and no part of
  *     what is lent:
- *         answer[0]  the refusal's place: the index of the record at fault plus 1, else 0
- *         answer[1]  the number of arguments read (reading only)
- *         answer[2]  the number of units written
+ *         answer[0]  the refusal's place: the index of the record or entry at fault plus 1, else 0
+ *         answer[1]  the number of arguments or entries read (reading only)
+ *         answer[2]  the number of units written; of a block that is read, the number used
  *         answer[3]  0
  *     A refusal changes nothing that was lent, and its answer[1] and answer[2] are 0. On success the result fills the front of the output (and of the span
  *     table), and everything behind it keeps its content.
@@ -24,7 +24,8 @@
  *     a line that goes there: that longest one is then refused by ASLAPUSH_ROOM.
  *     An empty array, vector or span of C# or C++ may have a null pointer, which this interface does not take: lend the address of any element instead, with
  *     the number 0.
- *     Two lists of entries can give one block, as key `a` with value `b=c` and key `a=b` with value `c`: `=` in a key is written as it is.
+ *     Two lists of entries can give one block, as key `a` with value `b=c` and key `a=b` with value `c`: `=` in a key is written as it is. Read back,
+ *     the block has the first of the two.
  */
 #ifndef ASLAPUSH_H
 #define ASLAPUSH_H
@@ -40,11 +41,12 @@ extern "C" {
 enum {
     ASLAPUSH_RECORD = 1,     /* a record's kind is none, its part reaches past the text, or the list ends inside a record */
     ASLAPUSH_LENGTH = 2,     /* more units to read or in the whole result than the limit below */
-    ASLAPUSH_PLACES = 3,     /* fewer places are lent than are needed: a span table has one for each argument */
+    ASLAPUSH_PLACES = 3,     /* fewer places are lent than are needed: a span table has one for each argument, two for each entry */
     ASLAPUSH_ROOM = 4,       /* fewer units are lent than the whole result has */
     ASLAPUSH_NUL = 5,        /* a NUL in a program, script, argument, key or value */
     ASLAPUSH_LINE_BREAK = 6, /* CR or LF in a regular argument of a batch line */
-    ASLAPUSH_SCRIPT = 7      /* a script contains a quote mark, or its last unit as lent is a backslash */
+    ASLAPUSH_SCRIPT = 7,     /* a script contains a quote mark, or its last unit as lent is a backslash */
+    ASLAPUSH_ENTRY = 8       /* to read: an entry or the final NUL runs into the end, an entry has no `=` behind its first unit, or a first NUL stands alone */
 };
 
 /* Kinds of argument records. */
@@ -55,18 +57,20 @@ enum {
     ASLAPUSH_READ_UNITS = 32767,                /* a line to be read up to its first NUL or its end, or where that is empty the executable name */
     ASLAPUSH_LINE_UNITS = 32767,                /* an ordinary line that is built */
     ASLAPUSH_BATCH_UNITS = ASLAPUSH_LINE_UNITS, /* a batch line that is built */
-    ASLAPUSH_BLOCK_UNITS = 65535                /* an environment block */
+    ASLAPUSH_BLOCK_UNITS = 65535                /* an environment block that is built, and what is lent to read one from */
 };
 
-/* What else is always enough: numbers of a span table (theorem always-enough of docs/PROMISES.md) and units of a status text (status-bound). */
-enum { ASLAPUSH_SPAN_NUMBERS = ASLAPUSH_READ_UNITS + 1, ASLAPUSH_STATUS_UNITS = 21 };
+/* What else is always enough: numbers of a span table for a line (theorem always-enough of docs/PROMISES.md) and for a block (table-always), and units of a
+ * status text (status-bound). */
+enum { ASLAPUSH_SPAN_NUMBERS = ASLAPUSH_READ_UNITS + 1, ASLAPUSH_ENTRY_NUMBERS = 87376, ASLAPUSH_STATUS_UNITS = 21 };
 
 /* Room that is enough for what is at hand, by theorems of docs/PROMISES.md.
  *     an ordinary line      program_len + 2, and for each argument of n units 2n + 3 (form-bound, and the space in front of it)
  *     a batch line          script_len + 31 (batch-line-length), and for each argument of n units 8n + 3 (batch-form-bound, and the space)
  *     reading n units       n units of text (text-bound) and n / 2 + 1 places, each of two numbers (count-bound); where the line is empty, n is the
  *                           executable name's units. With n + 2 numbers nothing need be measured first, which is faster
- *     a block               exactly key_len + value_len + 2 for each entry, and 1; without entries 2 */
+ *     a block               exactly key_len + value_len + 2 for each entry, and 1; without entries 2
+ *     reading a block       of n units: 4 * (n / 3) numbers, n / 3 rounded down (table-enough): an entry has at least three units with its NUL */
 
 /* Reads a line by the C run-time rules. The line is the lent units up to the first NUL or the end; an empty line has one argument, the executable name as
  * it is. The texts lie one after another from the front of `text`; `spans` gets start and length of each, and an odd last number in it is no place.
@@ -99,6 +103,16 @@ uint32_t aslapush_make_bat_command_line(const uint16_t *script, size_t script_le
  *     records 0 1 1 1, text `A1`      gives A=1 NUL NUL, 5 units */
 uint32_t aslapush_make_envp(const uint32_t *records, size_t records_len, const uint16_t *text, size_t text_len, uint16_t *out, size_t out_len,
                             uint64_t answer[4]);
+
+/* Lists the entries of an environment block. `spans` gets four numbers an entry: start and length of its key, start and length of its value, in units of
+ * `block` itself, so nothing is copied. An entry ends at NUL and splits at its first `=` that is not its first unit: `=C:=x` has the key `=C:`. A NUL where
+ * an entry would start ends the block; no entries are two NULs. answer[1] is the number of entries, answer[2] the units used, with the final NUL: what is
+ * lent behind them is ignored, but counts for refusal 2.
+ * Refuses 2; 8 at the first bad entry, counted from 1, where a missing final NUL counts as the entry after the last; 3.
+ * The first 4 * answer[1] numbers of `spans` are records for aslapush_make_envp with `block` as their text: it gives the units used again (lent-on).
+ *     A=1 NUL =C:=x NUL NUL and 3 units more      gives 2 entries, 11 units used: spans 0 1 2 1  4 3 8 1
+ *     A=1 NUL B NUL NUL                           gives refusal 8 at place 2 */
+uint32_t aslapush_read_envp(const uint16_t *block, size_t block_len, uint32_t *spans, size_t spans_len, uint64_t answer[4]);
 
 /* Writes the text of a child process's recorded status. Refuses 4.
  *     3221225477      gives exit code: 0xc0000005, 21 units */

@@ -9,6 +9,10 @@ static int failed, passed;
 static uint16_t name[ASLAPUSH_LINE_UNITS], text[64], out[ASLAPUSH_BLOCK_UNITS + 1], kept[ASLAPUSH_BLOCK_UNITS + 1];
 static uint64_t a[4];
 
+/* A block to read, and the table that its reader is lent up to a number of numbers. */
+static uint16_t dump[ASLAPUSH_BLOCK_UNITS + 1];
+static uint32_t listing[ASLAPUSH_ENTRY_NUMBERS + 1], listing_kept[ASLAPUSH_ENTRY_NUMBERS + 1];
+
 static void expect(int holds, const char *what) {
     if (holds) {
         passed++;
@@ -69,6 +73,36 @@ static uint32_t batch(size_t script_len, const uint32_t *records, size_t numbers
 static uint32_t block(const uint32_t *records, size_t numbers, size_t text_len, size_t room) {
     ready();
     return aslapush_make_envp(records, numbers, text, text_len, out, room, a);
+}
+
+static uint32_t entries(size_t block_len, size_t numbers) {
+    ready();
+    memset(listing, 0xdd, sizeof listing);
+    memcpy(listing_kept, listing, sizeof listing);
+    return aslapush_read_envp(dump, block_len, listing, numbers, a);
+}
+
+/* The answer of the block reader, and nothing changed behind the numbers stored: after a refusal nothing at all. */
+static int listed(uint64_t place, uint64_t count, uint64_t used) {
+    int said = a[0] == place && a[1] == count && a[2] == used && a[3] == 0;
+    return said && memcmp(listing + 4 * count, listing_kept + 4 * count, sizeof listing - 16 * count) == 0;
+}
+
+/* The block that the filled front of the table gives, as records over what was read: the units used. */
+static int rebuilt(size_t block_len) {
+    size_t used = a[2], numbers = 4 * a[1];
+    ready();
+    uint32_t number = aslapush_make_envp(listing, numbers, dump, block_len, out, used, a);
+    return number == 0 && told(0, 0, used) && memcmp(out, dump, 2 * used) == 0;
+}
+
+/* A block as a text whose NULs are written as `/`, and how many units it has. */
+static size_t dumped(const char *ascii) {
+    size_t n = units(ascii, dump);
+    for (size_t i = 0; i < n; i++)
+        if (dump[i] == '/')
+            dump[i] = 0;
+    return n;
 }
 
 static uint32_t status(uint32_t recorded, size_t room) {
@@ -162,6 +196,36 @@ static void blocks(void) {
     expect(block(joined, 4, t, 64) == 0 && told(0, 0, 7) && same(out, 5, "a=b=c"), "key a=b, value c");
 }
 
+static void block_reading(void) {
+    size_t n = dumped("A=1/=C:=x//...");
+    expect(entries(n, 8) == 0 && listed(0, 2, 11), "a block is read, in its table");
+    expect(memcmp(listing, (uint32_t[]){0, 1, 2, 1, 4, 3, 8, 1}, 32) == 0, "the spans of its keys and values");
+    expect(rebuilt(n), "its table, lent on as records, gives the units used");
+    expect(entries(n, 7) == ASLAPUSH_PLACES && listed(0, 0, 0), "too few places: a number less");
+    expect(entries(n, 0) == ASLAPUSH_PLACES && listed(0, 0, 0), "no places");
+    expect(entries(10, 8) == ASLAPUSH_ENTRY && listed(3, 0, 0), "no final NUL: the entry after the last");
+    expect(entries(9, 8) == ASLAPUSH_ENTRY && listed(2, 0, 0), "an entry that runs into the end");
+    expect(entries(0, 8) == ASLAPUSH_ENTRY && listed(1, 0, 0), "nothing at all");
+    n = dumped("A=1/B//");
+    expect(entries(n, 0) == ASLAPUSH_ENTRY && listed(2, 0, 0), "an entry without `=`, before too few places");
+    n = dumped("=C:/");
+    expect(entries(n, 8) == ASLAPUSH_ENTRY && listed(1, 0, 0), "an entry whose only `=` is its first unit");
+    n = dumped("//A=1/");
+    expect(entries(n, 0) == 0 && listed(0, 0, 2) && rebuilt(n), "a block of no entries");
+    expect(entries(1, 8) == ASLAPUSH_ENTRY && listed(1, 0, 0), "one NUL");
+    n = dumped("/A=1//");
+    expect(entries(n, 8) == ASLAPUSH_ENTRY && listed(1, 0, 0), "one NUL in front");
+    for (size_t i = 0; i < ASLAPUSH_BLOCK_UNITS + 1; i++)
+        dump[i] = (uint16_t[]){'A', '=', 0}[i % 3];
+    dump[65532] = 0;
+    n = ASLAPUSH_BLOCK_UNITS;
+    expect(entries(n, ASLAPUSH_ENTRY_NUMBERS) == 0 && listed(0, 21844, 65533) && rebuilt(n), "as many entries as a block can have");
+    expect(entries(n, ASLAPUSH_ENTRY_NUMBERS - 1) == ASLAPUSH_PLACES && listed(0, 0, 0), "a number less than they need");
+    expect(entries(n + 1, ASLAPUSH_ENTRY_NUMBERS) == ASLAPUSH_LENGTH && listed(0, 0, 0), "a unit too many");
+    dump[0] = 0;
+    expect(entries(n + 1, 0) == ASLAPUSH_LENGTH && listed(0, 0, 0), "a unit too many, before a bad entry");
+}
+
 static void statuses(void) {
     expect(status(3221225477u, ASLAPUSH_STATUS_UNITS) == 0 && told(0, 0, 21) && same(out, 21, "exit code: 0xc0000005"), "a status");
     expect(status(0, 11) == ASLAPUSH_ROOM && told(0, 0, 0), "a status without room");
@@ -173,6 +237,7 @@ int main(void) {
     lines();
     batches();
     blocks();
+    block_reading();
     statuses();
     size_t p = units("a.CMD", name);
     expect(aslapush_has_bat_extension(name, p) == 1 && aslapush_has_bat_extension(name, p - 1) == 0, "suffixes");

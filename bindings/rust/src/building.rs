@@ -69,7 +69,7 @@ impl CommandLine {
     }
 }
 
-/// An environment block to be built, entries in the order in which they are added.
+/// An environment block to be built, entries in the order in which they are added; [`read`](Self::read) lists the entries of one.
 ///
 /// ```
 /// use aslapush::{wide, EnvironmentBlock};

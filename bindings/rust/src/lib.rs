@@ -1,4 +1,4 @@
-//! Launch lines for Windows processes: built, read and refused exactly as the proved library does.
+//! Launch lines and environment blocks for Windows processes: built, read and refused exactly as the proved library does.
 //!
 //! Text is UTF-16 code units, `&[u16]`; [`wide`] makes them of a `str`. Nothing here starts a process, and no line has a terminating NUL: whoever hands
 //! one to Windows adds it (include/aslapush.h says what else is to be known there).
@@ -12,12 +12,14 @@
 //! ```
 #![warn(missing_docs, unsafe_op_in_unsafe_fn)]
 mod building;
+mod entries;
 mod flat;
 mod raw;
 mod refusal;
 mod room;
 
 pub use building::{CommandLine, EnvironmentBlock};
+pub use entries::Entries;
 pub use refusal::Refusal;
 
 /// The most units of a line that is read, and of an executable name that stands for an empty one.
@@ -26,7 +28,7 @@ pub const READ_UNITS: usize = 32_767;
 pub const LINE_UNITS: usize = 32_767;
 /// The most units of a batch line that is built.
 pub const BATCH_UNITS: usize = LINE_UNITS;
-/// The most units of a block.
+/// The most units of a block that is built, and of a slice that a block is read from.
 pub const BLOCK_UNITS: usize = 65_535;
 /// The most units of a status text.
 pub const STATUS_UNITS: usize = 21;

@@ -20,6 +20,7 @@ mod c {
         pub fn aslapush_make_envp(
             records: *const u32, records_len: usize, text: *const u16, text_len: usize, out: *mut u16, out_len: usize, answer: *mut [u64; 4],
         ) -> u32;
+        pub fn aslapush_read_envp(block: *const u16, block_len: usize, spans: *mut u32, spans_len: usize, answer: *mut [u64; 4]) -> u32;
         pub fn aslapush_status_text(status: u32, out: *mut u16, out_len: usize, answer: *mut [u64; 4]) -> u32;
         pub fn aslapush_code(status: u32) -> i32;
         pub fn aslapush_has_bat_extension(path: *const u16, path_len: usize) -> u32;
@@ -58,9 +59,9 @@ impl<T: Copy> Lent<T> {
     }
 }
 
-/// How many arguments and units an answer has.
+/// How many arguments or entries and units an answer has.
 struct Counts {
-    arguments: usize,
+    items: usize,
     units: usize,
 }
 
@@ -68,7 +69,7 @@ struct Counts {
 fn answered(call: impl FnOnce(&mut [u64; 4]) -> u32) -> Result<Counts, Refusal> {
     let mut answer = [0; 4];
     match call(&mut answer) {
-        0 => Ok(Counts { arguments: answer[1] as usize, units: answer[2] as usize }),
+        0 => Ok(Counts { items: answer[1] as usize, units: answer[2] as usize }),
         number => Err(Refusal::of(number, answer[0] as usize)),
     }
 }
@@ -94,7 +95,7 @@ pub fn parse_lp_cmd_line(line: &[u16], exe_name: &[u16], units: usize, numbers: 
         )
     })?;
     // SAFETY: it answered, so texts of so many units and two numbers an argument fill the fronts (`Gave`, crates/aslapush/specs/Export.antt).
-    Ok(unsafe { (text.filled(counts.units), spans.filled(2 * counts.arguments)) })
+    Ok(unsafe { (text.filled(counts.units), spans.filled(2 * counts.items)) })
 }
 
 pub fn make_command_line(program: &[u16], args: &Flat, force_quotes: bool, room: usize) -> Result<Vec<u16>, Refusal> {
@@ -120,6 +121,14 @@ pub fn make_envp(entries: &Flat, room: usize) -> Result<Vec<u16>, Refusal> {
     written(room, |out, answer| unsafe {
         c::aslapush_make_envp(records.as_ptr(), records.len(), text.as_ptr(), text.len(), out, room, answer)
     })
+}
+
+/// The numbers of the span table, and the units used.
+pub fn read_envp(block: &[u16], numbers: usize) -> Result<(Vec<u32>, usize), Refusal> {
+    let mut spans = Lent::new(numbers);
+    let counts = answered(|answer| unsafe { c::aslapush_read_envp(block.as_ptr(), block.len(), spans.pointer(), numbers, answer) })?;
+    // SAFETY: it answered, so four numbers an entry fill the front (`Tabulated`, crates/aslapush/specs/Export.antt).
+    Ok((unsafe { spans.filled(4 * counts.items) }, counts.units))
 }
 
 pub fn status_text(status: u32, room: usize) -> Result<Vec<u16>, Refusal> {

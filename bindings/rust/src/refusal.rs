@@ -3,7 +3,7 @@
 //! the header's.
 use std::fmt;
 
-/// Why nothing was answered. The place is the index plus 1 of the argument or entry at fault, or 0 for the program, script or line.
+/// Why nothing was answered. The place is the index plus 1 of the argument or entry at fault, or 0 for the program, script, line or block.
 #[derive(Debug, Clone, Copy, PartialEq, Eq, Hash)]
 pub enum Refusal {
     /// 1: a record that is none. This crate makes its own records, so it does not arise here.
@@ -30,10 +30,16 @@ pub enum Refusal {
     },
     /// 7: a script that contains a quote mark, or whose last unit as lent is a backslash.
     Script,
+    /// 8: a bad entry in a block to read. It has no `=` behind its first unit, or it or the final NUL behind the last entry runs into the end; or the block
+    /// starts with a NUL and no second one follows.
+    Entry {
+        /// The index plus 1 of the first bad entry. A missing final NUL counts as the entry after the last.
+        place: usize,
+    },
 }
 
 impl Refusal {
-    /// The refusal's number, 1 to 7.
+    /// The refusal's number, 1 to 8.
     pub fn number(self) -> u32 {
         match self {
             Refusal::Record { .. } => 1,
@@ -43,13 +49,14 @@ impl Refusal {
             Refusal::Nul { .. } => 5,
             Refusal::LineBreak { .. } => 6,
             Refusal::Script => 7,
+            Refusal::Entry { .. } => 8,
         }
     }
 
     /// The refusal's place: the index plus 1 of what is at fault, else 0.
     pub fn place(self) -> usize {
         match self {
-            Refusal::Record { place } | Refusal::Nul { place } | Refusal::LineBreak { place } => place,
+            Refusal::Record { place } | Refusal::Nul { place } | Refusal::LineBreak { place } | Refusal::Entry { place } => place,
             Refusal::Length | Refusal::Places | Refusal::Room | Refusal::Script => 0,
         }
     }
@@ -57,8 +64,8 @@ impl Refusal {
     /// The refusal of a number and a place that the library gave.
     ///
     /// A number that is not here can only come from an archive that is not of this crate's version: the proved functions give no other (theorems read-only,
-    /// line-only, batch-only, block-only and status-only of docs/PROMISES.md). That is a fault of the build and no property of the caller's input, so it is
-    /// no variant, which every caller would have to handle and none could: it panics.
+    /// line-only, batch-only, block-only, entries-only and status-only of docs/PROMISES.md). That is a fault of the build and no property of the caller's
+    /// input, so it is no variant, which every caller would have to handle and none could: it panics.
     pub(crate) fn of(number: u32, place: usize) -> Refusal {
         match number {
             1 => Refusal::Record { place },
@@ -68,6 +75,7 @@ impl Refusal {
             5 => Refusal::Nul { place },
             6 => Refusal::LineBreak { place },
             7 => Refusal::Script,
+            8 => Refusal::Entry { place },
             _ => panic!("libaslapush.a refused by {number} at place {place}, a number that this crate does not know: they are of different versions"),
         }
     }
@@ -84,6 +92,7 @@ impl fmt::Display for Refusal {
             Refusal::Nul { place } => write!(f, "item {place} contains a NUL: remove it"),
             Refusal::LineBreak { place } => write!(f, "argument {place} contains CR or LF, which would cut a batch line short: remove it"),
             Refusal::Script => write!(f, "the script's name contains a quote mark or ends with a backslash: no file has such a name"),
+            Refusal::Entry { place } => write!(f, "entry {place} has no `=` behind its first unit, or the block ends before it does: is it whole?"),
         }
     }
 }
@@ -114,7 +123,7 @@ mod tests {
 
     #[test]
     fn every_number_of_the_table_is_decoded_as_itself() {
-        let with_place = [1, 5, 6];
+        let with_place = [1, 5, 6, 8];
         for number in table() {
             let refusal = Refusal::of(number, 9);
             assert_eq!(refusal.number(), number);

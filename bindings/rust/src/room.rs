@@ -30,6 +30,12 @@ pub fn for_arguments(line: usize, exe_name: usize) -> (usize, usize) {
     (units, units + 2)
 }
 
+/// Numbers of a span table for reading a block of n units: four an entry, and there are at most (n - 1) / 3 (entries-bound). A slice past the limit is refused
+/// by 2, whatever the table has.
+pub fn for_entries(block: usize) -> usize {
+    4 * (block.min(BLOCK_UNITS).saturating_sub(1) / 3)
+}
+
 #[cfg(test)]
 mod tests {
     use super::*;
@@ -40,6 +46,7 @@ mod tests {
         assert_eq!([for_batch_line(5, 0, 0), for_batch_line(5, 3, 1)], [36, 36 + (8 * 3 + 3)]);
         assert_eq!([for_block(0, 0), for_block(0, 1), for_block(2, 1), for_block(3, 2)], [2, 3, 5, 8]);
         assert_eq!([for_arguments(0, 0), for_arguments(4, 9), for_arguments(10, 0)], [(0, 2), (9, 11), (10, 12)]);
+        assert_eq!([0, 1, 3, 4, 6, 7].map(for_entries), [0, 0, 0, 4, 4, 8]);
     }
 
     #[test]
@@ -49,5 +56,6 @@ mod tests {
         assert_eq!([for_batch_line(usize::MAX, 1, 1), for_batch_line(2, usize::MAX, 1), for_batch_line(2, 0, usize::MAX)], [BATCH_UNITS; 3]);
         assert_eq!([for_block(usize::MAX, 1), for_block(1, usize::MAX), for_block(BLOCK_UNITS, 0)], [BLOCK_UNITS; 3]);
         assert_eq!([for_arguments(usize::MAX, 0), for_arguments(0, usize::MAX)], [(READ_UNITS, READ_UNITS + 2); 2]);
+        assert_eq!([BLOCK_UNITS, usize::MAX].map(for_entries), [87_376; 2]);
     }
 }

@@ -1,4 +1,5 @@
-//! The binding against the archive: lists go through a line and back, room is enough at every bound, and every refusal that can arise is named.
+//! The binding against the archive: lists go through a line and back, entries through a block, room is enough at every bound, and every refusal that can
+//! arise is named.
 use aslapush::{class_of, code, has_bat_extension, parse, status_text, wide, CommandLine, EnvironmentBlock, Refusal};
 use aslapush::{BATCH_UNITS, BLOCK_UNITS, LINE_UNITS, READ_UNITS};
 
@@ -12,6 +13,11 @@ impl Numbers {
         self.0 ^= self.0 << 17;
         self.0 % n
     }
+
+    /// Fewer than n units out of a pool.
+    fn units(&mut self, pool: &[u16], n: u64) -> Vec<u16> {
+        (0..self.below(n)).map(|_| pool[self.below(pool.len() as u64) as usize]).collect()
+    }
 }
 
 #[test]
@@ -20,8 +26,7 @@ fn regular_arguments_come_back() {
     let pool = [32u16, 9, 34, 34, 92, 92, 97, 0x430, 0xd800, 37];
     for _ in 0..20_000 {
         let count = numbers.below(6);
-        let list: Vec<Vec<u16>> =
-            (0..count).map(|_| (0..numbers.below(9)).map(|_| pool[numbers.below(pool.len() as u64) as usize]).collect()).collect();
+        let list: Vec<Vec<u16>> = (0..count).map(|_| numbers.units(&pool, 9)).collect();
         let line = list.iter().fold(CommandLine::new(&wide("p q")), |l, a| l.arg(a)).force_quotes(numbers.below(2) == 0).build().unwrap();
         assert_eq!(parse(&line, &wide("x")).unwrap().split_first().unwrap(), (&wide("p q"), &list[..]));
     }
@@ -53,6 +58,102 @@ fn reading_has_room_for_as_many_arguments_as_there_can_be() {
     }
     let name = vec![97; READ_UNITS];
     assert_eq!(parse(&[0, 97, 98], &name).unwrap(), [name], "a line that is empty up to its NUL");
+}
+
+/// Entries in their order, each a key and a value.
+type Listed = Vec<(Vec<u16>, Vec<u16>)>;
+
+/// A block of such entries.
+fn block(entries: &Listed) -> Vec<u16> {
+    entries.iter().fold(EnvironmentBlock::new(), |b, (key, value)| b.entry(key, value)).build().unwrap()
+}
+
+/// What the binding reads, with the units used.
+fn entries(lent: &[u16]) -> Result<(Listed, usize), Refusal> {
+    let read = EnvironmentBlock::read(lent)?;
+    let listed: Listed = read.iter().map(|(key, value)| (key.to_vec(), value.to_vec())).collect();
+    assert_eq!((read.len(), read.is_empty()), (listed.len(), listed.is_empty()));
+    assert_eq!([read.block(), read.rest()].concat(), lent);
+    Ok((listed, read.block().len()))
+}
+
+#[test]
+fn entries_come_back() {
+    let mut numbers = Numbers(0x9e3779b97f4a7c15);
+    for _ in 0..20_000 {
+        let list: Listed = (0..numbers.below(6))
+            .map(|_| {
+                let first = [61, 66, 0xdfff][numbers.below(3) as usize];
+                let key = [vec![first], numbers.units(&[97, 58, 0x430, 0xd800], 20)].concat();
+                (key, numbers.units(&[61, 61, 97, 0xdc00], 40))
+            })
+            .collect();
+        let built = block(&list);
+        let lent = [built.clone(), numbers.units(&[0, 61, 97], 9)].concat();
+        assert_eq!(entries(&lent), Ok((list, built.len())));
+    }
+}
+
+/// Reading by the document's sentences, one after another.
+fn plainly(lent: &[u16]) -> Result<(Listed, usize), Refusal> {
+    let (mut listed, mut at) = (vec![], 0);
+    loop {
+        let bad = Refusal::Entry { place: listed.len() + 1 };
+        let rest = &lent[at..];
+        match rest {
+            [] => return Err(bad),
+            [0, 0, ..] if at == 0 => return Ok((listed, 2)),
+            [0, ..] if at == 0 => return Err(bad),
+            [0, ..] => return Ok((listed, at + 1)),
+            _ => {}
+        }
+        let entry = &rest[..rest.iter().position(|&unit| unit == 0).ok_or(bad)?];
+        let key = 1 + entry[1..].iter().position(|&unit| unit == 61).ok_or(bad)?;
+        listed.push((entry[..key].to_vec(), entry[key + 1..].to_vec()));
+        at += entry.len() + 1;
+    }
+}
+
+#[test]
+fn every_short_block_is_read_by_the_sentences_and_built_again() {
+    for length in 0..10 {
+        for number in 0..3usize.pow(length) {
+            let lent: Vec<u16> = (0..length).map(|i| [0, 61, 65][number / 3usize.pow(i) % 3]).collect();
+            let read = entries(&lent);
+            assert_eq!(read, plainly(&lent), "{lent:?}");
+            if let Ok((listed, used)) = read {
+                assert_eq!(block(&listed), lent[..used], "{lent:?}");
+            }
+        }
+    }
+}
+
+#[test]
+fn bad_entries_are_refused_at_their_places() {
+    let place = |text: &str| EnvironmentBlock::read(&wide(text)).map(|entries| entries.len());
+    let at = |place| Err(Refusal::Entry { place });
+    assert_eq!([place(""), place("\0"), place("\0A=1\0\0"), place("\0\0")], [at(1), at(1), at(1), Ok(0)]);
+    assert_eq!([place("A"), place("A="), place("A=\0"), place("A=\0\0"), place("A=\0B=\0")], [at(1), at(1), at(2), Ok(1), at(3)]);
+    assert_eq!([place("=\0\0"), place("=A\0\0"), place("==\0\0"), place("A=\0=C:\0\0"), place("A=\0=C:=x\0\0")], [at(1), at(1), Ok(1), at(2), Ok(2)]);
+    assert_eq!([place("A=\0\0B"), place("A=\0\0B=\0\0")], [Ok(1), Ok(1)], "what stands behind is ignored");
+    let drive = entries(&wide("=C:=x=y\0==\0\0")).unwrap();
+    assert_eq!(drive, (vec![(wide("=C:"), wide("x=y")), (wide("="), vec![])], 12));
+    let refusal = Refusal::Entry { place: 2 };
+    assert_eq!((refusal.number(), refusal.place()), (8, 2));
+    assert!(refusal.to_string().starts_with("entry 2 has no `=` behind its first unit"));
+}
+
+#[test]
+fn a_block_of_the_limit_is_read_and_no_unit_more() {
+    let most = (BLOCK_UNITS - 1) / 3;
+    let mut lent: Vec<u16> = wide("A=\0").into_iter().cycle().take(3 * most).chain([0, 7, 7]).collect();
+    assert_eq!((lent.len(), entries(&lent).unwrap().0.len()), (BLOCK_UNITS, most));
+    lent.push(7);
+    assert_eq!(EnvironmentBlock::read(&lent).unwrap_err(), Refusal::Length, "what stands behind counts");
+    let long = [wide("A="), vec![97; BLOCK_UNITS - 4], vec![0, 0]].concat();
+    assert_eq!(entries(&long).unwrap(), (vec![(wide("A"), vec![97; BLOCK_UNITS - 4])], BLOCK_UNITS));
+    assert_eq!(EnvironmentBlock::read(&vec![97; BLOCK_UNITS]).unwrap_err(), Refusal::Entry { place: 1 });
+    assert_eq!(EnvironmentBlock::read(&vec![97; BLOCK_UNITS + 1]).unwrap_err(), Refusal::Length, "2 is tested first");
 }
 
 #[test]

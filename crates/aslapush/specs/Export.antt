@@ -6,14 +6,15 @@ use mathlib.Core.List.{List, [], _∷_}
 use lib.Dec.{eqb}
 use Rattle.rules.specs.Choice.{pick, flip}
 use Rattle.rules.specs.Outcome.{Outcome, filled}
+use Rattle.rules.specs.Record.{Entry}
 use Rattle.reading.specs.declared.Span.{Span}
-use Rattle.rules.specs.Answer.{Said, unitsSaid, argumentsSaid, outcomeTexts, outcomeSpans}
+use Rattle.rules.specs.Answer.{Said, unitsSaid, argumentsSaid, entriesSaid, outcomeTexts, outcomeSpans, outcomeEntrySpans}
 
 -- any number but 0 forces quotes
 abbrev pub forces : ℕ → Bool
 forces flag = flip (eqb flag 0)
 
--- the lent array afterwards: place, arguments, units, 0
+-- the lent array afterwards: place, arguments or entries, units, 0
 abbrev pub counts : Said → List ℕ
 counts s = s .place ∷ s .arguments ∷ s .units ∷ 0 ∷ []
 
@@ -32,6 +33,11 @@ pub record Gave (o : Outcome (List (List ℕ))) (number : ℕ) (answer text text
   pub tells : Told (argumentsSaid o) number answer
   pub leaves : text′ ≡ filled text (outcomeTexts o)
   pub tabulates : spans′ ≡ filled spans (outcomeSpans o)
+
+-- the exported reader of blocks
+pub record Tabulated (o : Outcome (List Entry)) (number : ℕ) (answer spans spans′ : List ℕ) : Type 0 where
+  pub tells : Told (entriesSaid o) number answer
+  pub tabulates : spans′ ≡ filled spans (outcomeEntrySpans o)
 
 -- a span as the two numbers of a lent array
 abbrev pub startAndLength : Span → List ℕ

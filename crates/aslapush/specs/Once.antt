@@ -4,8 +4,9 @@ use Prim.Native.Nat.{ℕ}
 use mathlib.Core.Path.{_≡_, sym, _∙_}
 use mathlib.Core.List.{List}
 use Rattle.rules.specs.Outcome.{Outcome}
+use Rattle.rules.specs.Record.{Entry}
 use Rattle.rules.specs.Answer.{Said}
-use Rattle.aslapush.specs.Export.{Told, Wrote, Gave}
+use Rattle.aslapush.specs.Export.{Told, Wrote, Gave, Tabulated}
 
 -- one number is returned, and one array of numbers is filled
 told-once : {s : Said} {number number′ : ℕ} {answer answer′ : List ℕ} → Told s number answer → Told s number′ answer′
@@ -24,3 +25,8 @@ pub gave-once : {o : Outcome (List (List ℕ))} {number number′ : ℕ} {answer
 gave-once g h =
     let (numbers, answers) = told-once (g .tells) (h .tells) in
     (numbers, answers, g .leaves ∙ sym (h .leaves), g .tabulates ∙ sym (h .tabulates))
+
+-- the exported reader of blocks: one number, one array, and one content of the span table
+pub tabulated-once : {o : Outcome (List Entry)} {number number′ : ℕ} {answer answer′ spans spans′ spans″ : List ℕ}
+    → Tabulated o number answer spans spans′ → Tabulated o number′ answer′ spans spans″ → (number ≡ number′) × (answer ≡ answer′) × (spans′ ≡ spans″)
+tabulated-once g h = let (numbers, answers) = told-once (g .tells) (h .tells) in (numbers, answers, g .tabulates ∙ sym (h .tabulates))

@@ -7,12 +7,14 @@ ghost use Rattle.rules.specs.Unit.{classOf};
 ghost use Rattle.rules.specs.Reading.{reading};
 ghost use Rattle.rules.specs.Building.{commandLine, batchCommandLine};
 ghost use Rattle.rules.specs.Block.{environmentBlock};
+ghost use Rattle.rules.specs.BlockReading.{blockReading};
 ghost use Rattle.rules.specs.Status.{statusOutcome, signedCode};
 ghost use Rattle.rules.specs.Suffix.{hasBatchSuffix};
 ghost use Rattle.reading.specs.Span.{argumentSpan};
-ghost use Rattle.aslapush.specs.Export.{forces, Wrote, Gave, startAndLength, asNumber};
+ghost use Rattle.aslapush.specs.Export.{forces, Wrote, Gave, Tabulated, startAndLength, asNumber};
 use answers::tell_built;
 use answers::tell_filled;
+use answers::tell_listed;
 use answers::tell_parsed;
 
 // Reads a line into texts and spans. Returns the refusal's number, 0 for an answer.
@@ -74,6 +76,15 @@ pub extern "C" fn aslapush_make_envp(
 {
     let filled = blocks::make_envp(records, text, out);
     tell_filled(filled, answer)
+}
+
+// Lists the entries of an environment block. Returns the refusal's number, 0 for an answer.
+#[no_mangle]
+pub extern "C" fn aslapush_read_envp(block: &[u16], spans: &mut [u32], answer: &mut [u64; 4]) -> u32
+    ensures { λ r. ⌜ Tabulated (blockReading (now (block .entry)) (length (now (spans .entry)))) r (now (answer .exit)) (now (spans .entry)) (now (spans .exit)) ⌝ }
+{
+    let listed = entries::read_envp(block, spans);
+    tell_listed(listed, answer)
 }
 
 // Writes the text of a child status. Returns the refusal's number, 0 for an answer.

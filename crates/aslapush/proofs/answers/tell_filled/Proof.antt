@@ -1,14 +1,13 @@
 -- `aslapush::answers::tell_filled` meets its contract. Assumes nothing.
 use borrow.Author.Needs.{needs}
-use mathlib.Core.Path.{refl}
 use Rattle.aslapush.proofs.answers.tell_filled.Statement.{statement}
 use Rattle.aslapush.proofs.answers.tell_filled.Tie as tie
 
 enum-known-filled : tie.Need-enum-known-filled
 enum-known-filled c = search needs
 
-fill-requires : tie.Need-fill-requires
-fill-requires c κs = search needs
+tell-counts-requires : tie.Need-tell-counts-requires
+tell-counts-requires c κs = search needs
 
 enum-known-filled-2 : tie.Need-enum-known-filled-2
 enum-known-filled-2 c = search needs
@@ -17,7 +16,7 @@ tell-refusal-requires : tie.Need-tell-refusal-requires
 tell-refusal-requires c κs = search needs
 
 returns : tie.Need-returns
-returns c = rw (c .before .before .before .filled .given .1) (record { returns = refl; fills = c .fill .ensures })
+returns c = rw (c .before .before .before .filled .given .1) (c .tell-counts .ensures)
 
 returns-2 : tie.Need-returns-2
 returns-2 c = rw (c .before .before .before .filled2 .given .1) (c .tell-refusal .ensures)
@@ -27,7 +26,7 @@ tell-filled-spec =
     tie.close
     (tie.spec
     enum-known-filled
-    fill-requires
+    tell-counts-requires
     enum-known-filled-2
     tell-refusal-requires
     returns
