@@ -2,7 +2,7 @@
 
 usage: ask.py ORACLE SEED COUNT LOG -- ANSWER..      (LOG takes every difference; ANSWER.. is the command that starts the program)
 
-Questions that show what is lent are answered by document 01 (model.py): the Rust lends nothing.
+Questions that show what is lent, and those on the entries of a block, are answered by the documents (model.py): the Rust lends nothing and reads no block.
 """
 import collections
 import itertools
@@ -30,7 +30,7 @@ class Judge:
     def expected(self, asked):
         """Whose answer it is, and the answer."""
         told = [line.split(' ', 1) for line in run([self.oracle, 'by'], asked)]
-        return [('01', by_model(q)) if q.startswith(('lent-', 'argument')) else tuple(t) for q, t in zip(asked, told, strict=True)]
+        return [(model.document(q), by_model(q)) if q.startswith(model.UNASKED) else tuple(t) for q, t in zip(asked, told, strict=True)]
 
     def smallest(self, question, was):
         """A question from which nothing more can be left out without the difference going away."""
@@ -80,13 +80,13 @@ def report(judge, log, asked, told, answers):
     """Prints equal/total for each verb and the shortest differences; how many there are."""
     equal, total, differ = collections.Counter(), collections.Counter(), []
     for q, (whose, want), have in zip(asked, told, answers):
-        row = (q.split(' ')[0], 'the Rust' if whose == 'rust' else 'document 01')
+        row = (q.split(' ')[0], 'the Rust' if whose == 'rust' else 'document ' + whose)
         total[row] += 1
         equal[row] += want == have
         if want != have:
             differ.append((row[0], len(q), q, want, have))
     for row in sorted(total):
-        print(f'{row[0]:11} {equal[row]} / {total[row]} equal to {row[1]}')
+        print(f'{row[0]:12} {equal[row]} / {total[row]} equal to {row[1]}')
     differ.sort()
     with open(log, 'w') as file:
         file.writelines(f'{q}\n  expected {want}\n  answered {have}\n' for _, _, q, want, have in differ)

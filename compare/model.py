@@ -1,11 +1,11 @@
-"""Document 01 as plain Python: what each entry point answers and what the lent memory holds afterwards.
+"""Documents 01 and 02 as plain Python: what each entry point answers and what the lent memory holds afterwards.
 
-Written from the document alone, sentence by sentence, without a look at the crates. Answers worked out with it stand where the Rust
-says nothing: refusals 1 to 4, places, NUL in a program or script, lent memory.
+Written from the documents alone, sentence by sentence, without a look at the crates. Answers worked out with it stand where the Rust
+says nothing: refusals 1 to 4, places, NUL in a program or script, lent memory, the entries of a block (02, E1).
 """
 
 READ, LINE, BLOCK = 32767, 32767, 65535
-QUOTE, BACKSLASH, SPACE, TAB, PERCENT = 34, 92, 32, 9, 37
+QUOTE, BACKSLASH, SPACE, TAB, PERCENT, EQUALS, NUL = 34, 92, 32, 9, 37, 61, 0
 GOOD = [ord(c) for c in r'#$*+-./:?@\_']
 FRONT = [ord(c) for c in 'cmd.exe /e:ON /v:OFF /d /c "']
 
@@ -210,6 +210,56 @@ def environment_block(records, text, room):
     return limited(BLOCK, room, whole if entries else [0, 0])
 
 
+# ---- reading a block: 02, E1
+
+def block_entries(block):
+    """Where each entry starts, splits and ends, and the units used."""
+    # "A block with no entries is two NULs." 8 if "the first unit is NUL and the second isn't there or isn't NUL (place 1)"
+    if block[:1] == [NUL]:
+        if block[1:2] != [NUL]:
+            raise Refused(8, 1)
+        return [], 2
+    entries, at = [], 0
+    while True:
+        # 8 if "an entry, or the final NUL, runs into the end of the slice"; "a missing final NUL counts as the entry after the last"
+        place = len(entries) + 1
+        try:
+            end = block.index(NUL, at)
+        except ValueError:
+            raise Refused(8, place)
+        if end == at:
+            return entries, end + 1
+        # "splits at its first `=` that isn't its first unit"; 8 if "an entry has no such `=`"
+        try:
+            split = block.index(EQUALS, at + 1, end)
+        except ValueError:
+            raise Refused(8, place)
+        entries.append((at, split, end))
+        at = end + 1
+
+
+def block_reading(block, numbers):
+    # "A slice over 65,535 units is refusal 2, tested first." 8. "Then 3, if the table has under two places for each entry."
+    if len(block) > BLOCK:
+        raise Refused(2)
+    entries, used = block_entries(block)
+    if numbers // 2 < 2 * len(entries):
+        raise Refused(3)
+    return entries, used
+
+
+def lent_entries(block, spans):
+    """Number, place, count, units used, and the table afterwards: "key and value spans in the lent block itself"."""
+    try:
+        entries, used = block_reading(block, len(spans))
+    except Refused as r:
+        return r.number, r.place, 0, 0, spans
+    table = [n for start, split, end in entries for n in (start, split - start, split + 1, end - split - 1)]
+    return 0, 0, len(entries), used, table + spans[len(table):]
+
+
+# ---- a child's status, and the batch suffix
+
 def status_text(status, room):
     text = 'exit code: ' + (str(status) if status < 2147483648 else '0x%x' % status)
     if room < len(text):
@@ -229,6 +279,15 @@ def suffix(path):
 
 # ---- the protocol of `answer`
 
+# How the questions begin that the Rust has no answer to: it lends nothing, and reads no block.
+UNASKED = ('lent-', 'argument', 'entries')
+
+
+def document(question):
+    """The document that answers a question where the Rust does not."""
+    return '02' if question.startswith(('entries', 'lent-entries')) else '01'
+
+
 def shown(units):
     if not units:
         return '{}'
@@ -236,7 +295,7 @@ def shown(units):
 
 
 def inner(units):
-    """A key or a value of a question: a colon is {3a}."""
+    """A key or a value: a colon is {3a}."""
     return shown(units).replace(':', '{3a}')
 
 
@@ -318,6 +377,16 @@ def answer(question):
         number, place, count, size, text, spans = lent_read(units(w[0]), units(w[1]), units(w[2]), list(map(int, w[3:])))
         head = f'refused {number} {place}' if number else f'ok {count} {size}'
         return ' '.join([head, shown(text)] + list(map(str, spans)))
+    if verb == 'entries':
+        block = units(w[0])
+        try:
+            entries, used = block_reading(block, room)
+        except Refused as r:
+            return f'refused {r.number} {r.place}'
+        return ' '.join(['ok', str(used)] + [inner(block[start:split]) + ':' + inner(block[split + 1:end]) for start, split, end in entries])
+    if verb == 'lent-entries':
+        number, place, count, used, spans = lent_entries(units(w[0]), list(map(int, w[1:])))
+        return ' '.join([f'refused {number} {place}' if number else f'ok {count} {used}'] + list(map(str, spans)))
     if verb == 'argument':
         return 'ok ' + shown(argument(units(w[0]), list(map(int, w[2:])), int(w[1])))
     return 'bad'

@@ -2,13 +2,17 @@
 import itertools
 import random
 
-from model import answer, inner, shown
+from model import answer, environment_block, inner, shown, units
 
 SIX = [32, 9, 34, 92, 97, 98]
 # one unit of each class and of each end of a range that a rule names, surrogates paired and alone
 POOL = [0, 9, 10, 13, 32, 34, 35, 37, 46, 47, 48, 57, 58, 61, 64, 65, 90, 91, 92, 95, 96, 97, 98, 122, 123, 125, 126, 127, 128, 159, 160, 255, 256, 0x430,
         0xd800, 0xdbff, 0xdc00, 0xdfff, 0xfffe, 0xffff]
 SPICY = [32, 9, 34, 34, 34, 92, 92, 92, 37, 97, 98, 61]
+# Blocks that 02 speaks of: none, one or two entries, where an entry splits, each cause of refusal 8 and its place, and units behind the final NUL.
+BLOCKS = ['{0}{0}', '{}', '{0}', '{0}A', '{0}A={0}{0}', '{0}{0}A', '=C:=x{0}{0}', '=={0}{0}', '==x{0}{0}', 'A==x={0}{0}', '={0}{0}', '=x{0}{0}', 'A{0}{0}',
+          'A=', 'A={0}', 'A={0}B', 'A={0}B{0}', 'A=b{0}C=d{0}{0}rest', 'A=b{0}C=d{0}{0}', 'A=b{0}C=d{0}', '=C:=x{0}K={0}{0}{5}', 'A={0}{0}', 'A:=b:{0}{0}',
+          'A={0}B={0}C={0}{0}', '{7b}={7d}{0}{430}={ffff}{0}{0}{0}']
 
 
 def short_lines(most):
@@ -224,19 +228,94 @@ def lent_faults():
                 yield ' '.join(['lent-env', text, '.....'] + front + [bad] + back)
 
 
+def short_blocks(most):
+    """Every block of at most so many units over NUL, `=` and A."""
+    for n in range(most + 1):
+        for block in itertools.product([0, 61, 65], repeat=n):
+            yield 'entries ' + shown(list(block))
+
+
+def blocks_lent(most, blocks=BLOCKS):
+    """Each of the blocks with room enough, and with each table of at most so many numbers."""
+    for block in blocks:
+        yield 'entries ' + block
+        for n in range(most + 1):
+            yield ' '.join(['lent-entries', block] + ['7'] * n)
+
+
+def block_of(entries):
+    """The units that 01 gives these entries, a key and a value each."""
+    records, text = [], []
+    for key, value in entries:
+        records += [len(text), len(key), len(text) + len(key), len(value)]
+        text += key + value
+    return environment_block(records, text, 1 << 30)
+
+
+def cut_blocks():
+    """Blocks that 01 gives, with units behind them, cut at every place."""
+    for pairs in ([], ['A=b'], ['=C:=x', 'K='], ['A=b', 'Path=C:\\x;y', '=D:=D:\\', 'Z==']):
+        halves = [[units(pair[:at] or '{}'), units(pair[at + 1:] or '{}')] for pair in pairs for at in [pair.index('=', 1)]]
+        whole = block_of(halves) + [82, 0, 61]
+        for end in range(len(whole) + 1):
+            yield 'entries ' + shown(whole[:end])
+            yield ' '.join(['lent-entries', shown(whole[:end])] + ['7'] * 4 * len(pairs))
+
+
+def block_limits():
+    """A block's limit one below, at and above: one long value, one long key without its final NUL, and no entry at all."""
+    for n in (65534, 65535, 65536):
+        yield 'entries ' + shown([65, 61] + [98] * (n - 4) + [0, 0])
+        yield 'entries ' + shown([97] * (n - 2) + [61, 0])
+        yield 'entries ' + shown([98] * n)
+
+
+def full_blocks():
+    """The most entries that a block holds, with units behind them and without, with a table one number too short, just enough, and one longer; NULs alone."""
+    most = [65, 61, 0] * 21844
+    yield 'entries ' + shown(most + [0, 0, 0])
+    for n in (65532, 65533, 65534, 65535, 65536):
+        yield 'entries ' + shown((most + [0] * 9)[:n])
+        yield 'entries ' + shown((most + [65, 61, 0, 0])[:n])
+        yield 'lent-entries ' + shown([0] * n)
+    for n in (87375, 87376, 87377):
+        yield ' '.join(['lent-entries', shown(most + [0])] + ['7'] * n)
+
+
+def random_blocks(seed, count):
+    """Seeded blocks, of any units or such that 01 gives, whole, with units behind them, cut or with a unit changed; with room enough or a lent table."""
+    r = random.Random(seed)
+    marks = [0, 0, 61, 61, 65, 66, 58, 123, 32, 0x430]
+    for _ in range(count):
+        block = word(r, 20, marks)
+        if r.random() < .8:
+            entries = [(no_nul(word(r, 4, marks)), no_nul(word(r, 8, r.choice([POOL, marks])))) for _ in range(r.randrange(5))]
+            block = block_of([(key or [65], value) for key, value in entries]) + word(r, 3, marks) * r.randrange(2)
+            if r.random() < .3:
+                block = block[:r.randrange(len(block) + 1)]
+            if block and r.random() < .3:
+                block[r.randrange(len(block))] = r.choice(marks)
+        if r.random() < .5:
+            yield 'entries ' + shown(block)
+        else:
+            table = [r.choice((7, 0, 4294967295)) for _ in range(r.randrange(14))]
+            yield ' '.join(['lent-entries', shown(block)] + list(map(str, table)))
+
+
 def bad_questions():
     """Lines that are no question."""
     return ['', 'read', 'read x', 'read x y z', 'reads x y', 'read  x', 'read x y ', ' read x y', 'line 2 p', 'line 0', 'line 0 p 0', 'line 0 p :x', 'line 0 p 00:x',
             'line 0 p 0:', 'line 0 p 0:{}x', 'line 0 p 0:{61}', 'line 0 p 0:{020}', 'line 0 p 0:{2A0}', 'line 0 p 0:{10000}', 'line 0 p 0:{', 'line 0 p 0:}',
             'line 0 p 4294967296:x', 'env A', 'env A:b:c', 'env {3d}C{3a}:x', 'env A{3a}', 'env :', 'env A:', 'suffix', 'suffix a b', 'status', 'status 4294967296', 'status 01', 'status -1', 'status 1 2',
             'status x', 'lent-line 0 p t', 'lent-line 0 p t o 4294967296', 'lent-line 0 p t o 01', 'lent-status 1', 'lent-read e l', 'argument t', 'argument t 18446744073709551616',
-            'argument t 00', 'read {22} x', 'READ x y', '#', 'read x\ty z']
+            'argument t 00', 'read {22} x', 'READ x y', '#', 'read x\ty z',
+            'entries', 'entries A={0}{0} x', 'entries A={0', 'entries A:{3a}', 'lent-entries', 'lent-entries x 01', 'lent-entries x y', 'lent-entries x 4294967296']
 
 
 def compared(seed, count):
     """What `compare/run` asks."""
     lists = [short_lines(7), short_arguments(4), each_unit(), limits(), statuses(), suffixes(), faults(), random_questions(seed, count), lent_rooms(), lent_limits(), lent_faults(),
-             lent_questions(seed, count // 10)]
+             lent_questions(seed, count // 10), short_blocks(7), blocks_lent(13), cut_blocks(), block_limits(), full_blocks(), random_blocks(seed, count // 10)]
     return [q for part in lists for q in part]
 
 
@@ -247,5 +326,6 @@ def recorded():
     five = [q for q in short_lines(5) if len(q) > 0]
     lists = [exhaustive, r.sample(five, 600), list(short_arguments(2)), r.sample(list(short_arguments(4)), 500), list(each_unit(POOL)), each_alone(), list(limits()),
              statuses(), r.sample(list(suffixes()), 80), r.sample(list(faults()), 500), list(random_questions(20, 700)), list(lent_questions(20, 900)),
-             list(lent_rooms()), list(lent_limits()), r.sample(list(lent_faults()), 400), bad_questions()]
+             list(lent_rooms()), list(lent_limits()), r.sample(list(lent_faults()), 400), bad_questions(),
+             list(short_blocks(5)), list(blocks_lent(9)), list(cut_blocks()), list(block_limits()), list(full_blocks())[:1], list(random_blocks(20, 200))]
     return [q for part in lists for q in part]

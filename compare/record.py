@@ -2,7 +2,7 @@
 
 usage: record.py ORACLE FOLDER
 
-A question of the first set has the Rust's answer where 01's domain gives one. Every other answer is worked out from document 01 by model.py, and
+A question of the first set has the Rust's answer where 01's domain gives one. Every other answer is worked out from the documents by model.py, and
 where both answer they must agree. Lines that are no question are answered `bad`.
 """
 import subprocess
@@ -20,14 +20,13 @@ def main():
     for q, line in zip(asked, done.stdout.decode().split('\n')):
         whose, told = line.split(' ', 1)
         worked = 'bad' if q in bad else model.answer(q)
-        lent = q.startswith(('lent-', 'argument'))
-        if told != worked and q not in bad and not lent:
+        if told != worked and q not in bad and not q.startswith(model.UNASKED):
             sys.exit(f'the Rust and 01 differ: {q[:200]}\n  {told[:200]}\n  {worked[:200]}')
         by_rust += whose == 'rust' and q not in bad
         answers.append(worked)
     open(f'{folder}/stdin', 'w').write('\n'.join(asked) + '\n')
     open(f'{folder}/stdout', 'w').write('\n'.join(answers) + '\n')
-    print(f'{len(asked)} questions, {by_rust} answered by the Rust, {len(asked) - by_rust} worked out from document 01')
+    print(f'{len(asked)} questions, {by_rust} answered by the Rust, {len(asked) - by_rust} worked out from the documents')
 
 
 main()

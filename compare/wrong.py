@@ -1,4 +1,5 @@
-"""Six wrong variants of reader and writer, document 01's "Errors easily made": how many of the recorded answers of `answer` catch each.
+"""Seven wrong variants: six of reader and writer, document 01's "Errors easily made", and one of the block reader. How many of the recorded answers of
+`answer` catch each.
 
 usage: wrong.py        (from any folder)
 
@@ -29,6 +30,7 @@ VARIANTS = [
      [('    if breaks {\n', '    if nul {\n        return Progress::Stopped(Refusal::Nul(place));\n    }\n    if breaks {\n')]),
     ('units written before a later argument is refused', 'building/src/turns.rt',
      [('            let judged =', '            let early = writing::add_argument(classes, out, units, text, arg, style);\n            let judged =')]),
+    ('an entry of a block split at its first unit', 'entries/src/marks.rt', [('let second = 1;', 'let second = 0;')]),
 ]
 
 

@@ -30,9 +30,9 @@ pub fn numbers() -> [u32; 400000]
     [0; 400000]
 }
 
-// For the spans of an answer.
-pub fn spans() -> [u32; 65536]
-    ensures { λ r. ⌜ 65536 ≡ length r ⌝ }
+// For the spans of an answer: four numbers for each entry of the longest block, whose entries have three units at least, with their NUL.
+pub fn spans() -> [u32; 87376]
+    ensures { λ r. ⌜ 87376 ≡ length r ⌝ }
 {
-    [0; 65536]
+    [0; 87376]
 }

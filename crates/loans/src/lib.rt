@@ -5,6 +5,7 @@ ghost use lib.ListN.{length};
 ghost use lib.Seq.{sets};
 use blocks::make_envp;
 use building::lines::build;
+use entries::read_envp;
 use fields::values::number_at;
 use fields::values::rest_from;
 use fields::values::text_at;
@@ -18,6 +19,7 @@ use sayings::lent_told;
 use sayings::name_front;
 use sayings::of_built;
 use sayings::of_filled;
+use sayings::of_listed;
 use sayings::of_parsed;
 use sayings::with_numbers;
 use status::status_text;
@@ -35,13 +37,7 @@ fn lend(out: &mut [u16], spans: &mut [u32], units: &[u16]) -> usize
 }
 
 // `lent-line F PROGRAM TEXT OUT [N ..]`, and `lent-batch F SCRIPT TEXT OUT [N ..]` where `batch` is set
-pub fn line(
-    batch: bool,
-    text: &[u16],
-    numbers: &[u32],
-    out: &mut [u16],
-    spans: &mut [u32],
-) -> Answer {
+fn line(batch: bool, text: &[u16], numbers: &[u32], out: &mut [u16], spans: &mut [u32]) -> Answer {
     let force = number_at(numbers, 0) == 1;
     let program = text_at(text, numbers, 1);
     let lent = text_at(text, numbers, 3);
@@ -52,7 +48,7 @@ pub fn line(
 }
 
 // `lent-env TEXT OUT [N ..]`
-pub fn env(text: &[u16], numbers: &[u32], out: &mut [u16], spans: &mut [u32]) -> Answer {
+fn env(text: &[u16], numbers: &[u32], out: &mut [u16], spans: &mut [u32]) -> Answer {
     let lent = text_at(text, numbers, 0);
     let places = lend(out, spans, text_at(text, numbers, 2));
     let records = rest_from(numbers, 4);
@@ -60,27 +56,53 @@ pub fn env(text: &[u16], numbers: &[u32], out: &mut [u16], spans: &mut [u32]) ->
 }
 
 // `lent-status N OUT`
-pub fn status(text: &[u16], numbers: &[u32], out: &mut [u16], spans: &mut [u32]) -> Answer {
+fn status(text: &[u16], numbers: &[u32], out: &mut [u16], spans: &mut [u32]) -> Answer {
     let places = lend(out, spans, text_at(text, numbers, 1));
     let number = number_at(numbers, 0);
     lent_told(of_filled(status_text(number, &mut out[..places])))
 }
 
 // `lent-read EXE LINE TEXT [N ..]`
-pub fn read(text: &[u16], numbers: &mut [u32], out: &mut [u16], spans: &mut [u32]) -> Answer {
+fn read(text: &[u16], numbers: &mut [u32], out: &mut [u16], spans: &mut [u32]) -> Answer {
     let exe = text_at(text, numbers, 0);
     let line = text_at(text, numbers, 2);
     let places = lend(out, spans, text_at(text, numbers, 4));
     let start = smaller(6, numbers.len());
     let p = parse_lp_cmd_line(line, exe, &mut out[..places], &mut numbers[start..]);
-    with_numbers(counts_told(of_parsed(p)), start, numbers.len(), false)
+    with_numbers(counts_told(of_parsed(p), 2), start, numbers.len(), false)
+}
+
+// `lent-entries BLOCK [N ..]`
+fn entries(text: &[u16], numbers: &mut [u32]) -> Answer {
+    let block = text_at(text, numbers, 0);
+    let start = smaller(2, numbers.len());
+    let l = read_envp(block, &mut numbers[start..]);
+    with_numbers(counts_told(of_listed(l), 0), start, numbers.len(), false)
 }
 
 // `argument TEXT INDEX [N ..]`
-pub fn argument(text: &[u16], numbers: &[u32], out: &mut [u16], spans: &mut [u32]) -> Answer {
+fn argument(text: &[u16], numbers: &[u32], out: &mut [u16], spans: &mut [u32]) -> Answer {
     let lent = text_at(text, numbers, 0);
     let index = wide_at(numbers, 2) as usize;
     let part = reading::argument(lent, rest_from(numbers, 4), index);
     lend(out, spans, part);
     brief(Word::Ok, 0, 0, 0, 2)
+}
+
+// The question of a row of the second set, in the order of the table.
+pub fn ask(
+    row: usize,
+    text: &[u16],
+    numbers: &mut [u32],
+    out: &mut [u16],
+    spans: &mut [u32],
+) -> Answer {
+    match row {
+        0 | 1 => line(row == 1, text, numbers, out, spans),
+        2 => env(text, numbers, out, spans),
+        3 => status(text, numbers, out, spans),
+        4 => read(text, numbers, out, spans),
+        5 => argument(text, numbers, out, spans),
+        _ => entries(text, numbers),
+    }
 }

@@ -4,10 +4,14 @@ use mathlib.Core.Path.{_≡_}
 use mathlib.Core.Bool.{Bool, false}
 use mathlib.Core.List.{List}
 use lib.Dec.{eqb}
+use lib.ListN.{length}
+use lib.Seq.{sets}
 use Rattle.rules.specs.Choice.{pick}
-use Rattle.rules.specs.Outcome.{Outcome}
-use Rattle.rules.specs.Answer.{Said, Answered}
+use Rattle.rules.specs.Outcome.{Outcome, filled}
+use Rattle.rules.specs.Record.{Entry}
+use Rattle.rules.specs.Answer.{Said, Answered, entriesSaid, outcomeEntrySpans}
 use Rattle.replies.specs.declared.answers.Answer.{Answer}
+use Rattle.replies.specs.declared.answers.Manner.{Manner}
 use Rattle.replies.specs.declared.answers.Manner.the-variants as Manner
 use Rattle.replies.specs.declared.answers.Word.{Word}
 use Rattle.replies.specs.declared.answers.Word.the-variants as Word
@@ -17,24 +21,24 @@ use Rattle.sayings.specs.declared.Saying.{Saying}
 abbrev pub saidIn : Saying → Said
 saidIn s = record { number = s .number; place = s .place; arguments = s .arguments; units = s .units }
 
--- a word and so many of two numbers, the texts that so many numbers of the span table name, and the numbers from one place of the table up to another
-abbrev pub answer : Word → ℕ → ℕ → ℕ → ℕ → ℕ → ℕ → Bool → Answer
-answer word count first second spans from to negative =
+-- a word and so many of two numbers, and the texts of a manner that so many numbers of the span table name
+abbrev pub answer : Word → ℕ → ℕ → ℕ → Manner → ℕ → Answer
+answer word count first second manner spans =
     record {
       word = word;
       count = count;
       first = first;
       second = second;
-      manner = Manner.Text;
+      manner = manner;
       spans = spans;
-      from = from;
-      to = to;
-      negative = negative;
+      from = 0;
+      to = 0;
+      negative = false;
     }
 
--- a word and numbers, and texts behind them
+-- a word and numbers, and texts of their own behind them
 abbrev pub brief : Word → ℕ → ℕ → ℕ → ℕ → Answer
-brief word count first second spans = answer word count first second spans 0 0 false
+brief word count first second spans = answer word count first second Manner.Text spans
 
 -- `refused NUMBER PLACE`, with texts behind it
 abbrev pub refusedTold : Said → ℕ → Answer
@@ -56,9 +60,13 @@ lentTold said = orRefused said 2 (brief Word.Ok 1 (said .units) 0 2)
 unfoldable pub textsTold : ℕ → Said → Answer
 textsTold places said = orRefused said 0 (brief Word.Ok 1 (said .arguments) 0 (min (said .arguments * 2) places))
 
--- `ok COUNT UNITS TEXT`, or `refused NUMBER PLACE TEXT`
-unfoldable pub countsTold : Said → Answer
-countsTold said = orRefused said 2 (brief Word.Ok 2 (said .arguments) (said .units) 2)
+-- `ok COUNT UNITS TEXT`, or `refused NUMBER PLACE TEXT`, where so many numbers of the span table name the text, or none
+unfoldable pub countsTold : ℕ → Said → Answer
+countsTold spans said = orRefused said spans (brief Word.Ok 2 (said .arguments) (said .units) spans)
+
+-- `ok USED KEY:VALUE ..`, by a span table of so many places: four for each entry
+unfoldable pub entriesTold : ℕ → Said → Answer
+entriesTold places said = orRefused said 0 (answer Word.Ok 1 (said .units) 0 Manner.Key (min (said .arguments * 4) places))
 
 -- the same answer with the numbers from one place of the table up to another
 abbrev pub numbered : Answer → ℕ → ℕ → Bool → Answer
@@ -71,3 +79,9 @@ pub record Tells (o : Outcome (List ℕ)) (shows : Said → Answer) (r : Answer)
   pub said : Said
   pub answered : Answered o said before after
   pub shown : r ≡ shows said
+
+-- what is answered is shown of what the outcome of reading a block says; the table names its keys and values, and the output begins with the block
+pub record Lists (o : Outcome (List Entry)) (block : List ℕ) (r : Answer) (spans spans′ out out′ : List ℕ) : Type 0 where
+  pub shown : r ≡ entriesTold (length spans) (entriesSaid o)
+  pub tabulates : spans′ ≡ filled spans (outcomeEntrySpans o)
+  pub shows : out′ ≡ sets out 0 block

@@ -3,15 +3,15 @@ ghost use mathlib.Core.Path.{_≡_};
 ghost use mathlib.Core.List.{[], _∷_};
 ghost use Prim.Native.Nat.{_*_, min};
 ghost use lib.Seq.{sets};
-ghost use Rattle.rules.specs.Answer.{builtSaid, filledSaid, parsedSaid, refusalSaid};
-ghost use Rattle.rules.specs.declared.Built.the-variants as Built;
-ghost use Rattle.sayings.specs.Told.{brief as Told·brief};
-ghost use Rattle.sayings.specs.Told.{saidIn, numbered, textTold, lentTold, textsTold, countsTold};
+ghost use Rattle.rules.specs.Answer.{builtSaid, filledSaid, gave, listedSaid, parsedSaid, refusalSaid};
+ghost use Rattle.sayings.specs.Told.{answer as Told·answer, brief as Told·brief};
+ghost use Rattle.sayings.specs.Told.{saidIn, numbered, textTold, lentTold, textsTold, countsTold, entriesTold};
 use replies::answers::Answer;
 use replies::answers::Manner;
 use replies::answers::Word;
 use rules::Built;
 use rules::Filled;
+use rules::Listed;
 use rules::Parsed;
 use rules::Refusal;
 use stores::put_number;
@@ -39,14 +39,14 @@ fn of_refusal(r: Refusal) -> Saying
     }
 }
 
-// So many units.
-fn of_units(units: usize) -> Saying
-    ensures { λ s. ⌜ saidIn s ≡ builtSaid (Built.Line units) ⌝ }
+// So many arguments, or entries of a block, and so many units.
+fn of_counts(arguments: usize, units: usize) -> Saying
+    ensures { λ s. ⌜ saidIn s ≡ gave arguments units ⌝ }
 {
     Saying {
         number: 0,
         place: 0,
-        arguments: 0,
+        arguments: arguments as u64,
         units: units as u64,
     }
 }
@@ -56,7 +56,7 @@ pub fn of_built(b: Built) -> Saying
     ensures { λ s. ⌜ saidIn s ≡ builtSaid b ⌝ }
 {
     match b {
-        Built::Line { units } => of_units(units),
+        Built::Line { units } => of_counts(0, units),
         Built::Refused(r) => of_refusal(r),
     }
 }
@@ -66,7 +66,7 @@ pub fn of_filled(f: Filled) -> Saying
     ensures { λ s. ⌜ saidIn s ≡ filledSaid f ⌝ }
 {
     match f {
-        Filled::Units(units) => of_units(units),
+        Filled::Units(units) => of_counts(0, units),
         Filled::Refused(r) => of_refusal(r),
     }
 }
@@ -76,31 +76,43 @@ pub fn of_parsed(p: Parsed) -> Saying
     ensures { λ s. ⌜ saidIn s ≡ parsedSaid p ⌝ }
 {
     match p {
-        Parsed::Arguments { count, units } => Saying {
-            number: 0,
-            place: 0,
-            arguments: count as u64,
-            units: units as u64,
-        },
+        Parsed::Arguments { count, units } => of_counts(count, units),
         Parsed::Refused(r) => of_refusal(r),
     }
 }
 
-// A word, so many of two numbers, and the texts that so many numbers of the span table name.
-pub fn brief(word: Word, count: usize, first: u64, second: u64, spans: usize) -> Answer
-    ensures { λ r. ⌜ r ≡ Told·brief word count first second spans ⌝ }
+// What the block reader said.
+pub fn of_listed(l: Listed) -> Saying
+    ensures { λ s. ⌜ saidIn s ≡ listedSaid l ⌝ }
+{
+    match l {
+        Listed::Entries { count, units } => of_counts(count, units),
+        Listed::Refused(r) => of_refusal(r),
+    }
+}
+
+// A word, so many of two numbers, and the texts of a manner that so many numbers of the span table name.
+fn answer(word: Word, count: usize, first: u64, second: u64, manner: Manner, spans: usize) -> Answer
+    ensures { λ r. ⌜ r ≡ Told·answer word count first second manner spans ⌝ }
 {
     Answer {
         word,
         count,
         first,
         second,
-        manner: Manner::Text,
+        manner,
         spans,
         from: 0,
         to: 0,
         negative: false,
     }
+}
+
+// A word, so many of two numbers, and texts of their own.
+pub fn brief(word: Word, count: usize, first: u64, second: u64, spans: usize) -> Answer
+    ensures { λ r. ⌜ r ≡ Told·brief word count first second spans ⌝ }
+{
+    answer(word, count, first, second, Manner::Text, spans)
 }
 
 // The same answer with the numbers from one place of the table up to another.
@@ -142,14 +154,14 @@ pub fn lent_told(s: Saying) -> Answer
     brief(Word::Refused, 2, s.number, s.place, 2)
 }
 
-// So many places of a table, two for each argument.
-fn places_of(arguments: u64, places: usize) -> usize
-    ensures { λ r. ⌜ r ≡ min (arguments * 2) places ⌝ }
+// So many places of a table, two for each text.
+fn places_of(texts: u64, places: usize) -> usize
+    ensures { λ r. ⌜ r ≡ min (texts * 2) places ⌝ }
 {
-    if ((places / 2) as u64) < arguments {
+    if ((places / 2) as u64) < texts {
         return places;
     }
-    (arguments * 2) as usize
+    (texts * 2) as usize
 }
 
 // `ok COUNT A0 A1 ..`, by a span table of so many places
@@ -162,12 +174,24 @@ pub fn texts_told(s: Saying, places: usize) -> Answer
     brief(Word::Refused, 2, s.number, s.place, 0)
 }
 
-// `ok COUNT UNITS TEXT`, or `refused NUMBER PLACE TEXT`
-pub fn counts_told(s: Saying) -> Answer
-    ensures { λ r. ⌜ r ≡ countsTold (saidIn s) ⌝ }
+// `ok COUNT UNITS TEXT`, or `refused NUMBER PLACE TEXT`, where so many numbers of the span table name the text, or none
+pub fn counts_told(s: Saying, spans: usize) -> Answer
+    ensures { λ r. ⌜ r ≡ countsTold spans (saidIn s) ⌝ }
 {
     if s.number == 0 {
-        return brief(Word::Ok, 2, s.arguments, s.units, 2);
+        return brief(Word::Ok, 2, s.arguments, s.units, spans);
     }
-    brief(Word::Refused, 2, s.number, s.place, 2)
+    brief(Word::Refused, 2, s.number, s.place, spans)
+}
+
+// `ok USED KEY:VALUE ..`, by a span table of so many places
+pub fn entries_told(s: Saying, places: usize) -> Answer
+    ensures { λ r. ⌜ r ≡ entriesTold places (saidIn s) ⌝ }
+{
+    if s.number == 0 {
+        let texts = places_of(s.arguments, places) as u64;
+        let named = places_of(texts, places);
+        return answer(Word::Ok, 1, s.units, 0, Manner::Key, named);
+    }
+    brief(Word::Refused, 2, s.number, s.place, 0)
 }

@@ -4,7 +4,7 @@ use Rattle.sayings.proofs.of_built.Statement.{statement}
 use Rattle.sayings.proofs.of_built.Tie as tie
 
 returns : tie.Need-returns
-returns c = rw (c .before .before .b .given .1) (c .of-units .ensures)
+returns c = rw (c .before .before .b .given .1) (c .of-counts .ensures)
 
 returns-2 : tie.Need-returns-2
 returns-2 c = rw (c .before .before .b2 .given .1) (c .of-refusal .ensures)

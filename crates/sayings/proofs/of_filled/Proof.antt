@@ -4,7 +4,7 @@ use Rattle.sayings.proofs.of_filled.Statement.{statement}
 use Rattle.sayings.proofs.of_filled.Tie as tie
 
 returns : tie.Need-returns
-returns c = rw (c .before .before .f .given .1) (c .of-units .ensures)
+returns c = rw (c .before .before .f .given .1) (c .of-counts .ensures)
 
 returns-2 : tie.Need-returns-2
 returns-2 c = rw (c .before .before .f2 .given .1) (c .of-refusal .ensures)

@@ -4,11 +4,12 @@ use Rattle.sayings.proofs.of_parsed.Statement.{statement}
 use Rattle.sayings.proofs.of_parsed.Tie as tie
 
 returns : tie.Need-returns
-returns c = rw (c .before .p .given .1)
+returns c = rw (c .before .before .p .given .1) (c .of-counts .ensures)
 
 returns-2 : tie.Need-returns-2
 returns-2 c = rw (c .before .before .p2 .given .1) (c .of-refusal .ensures)
 
 pub of-parsed-spec : {M : Type 1} → statement M
 of-parsed-spec =
-    tie.close (tie.spec (λ c. search needs) (λ c. search needs) (λ c κs. search needs) returns returns-2)
+    tie.close
+    (tie.spec (λ c. search needs) (λ c κs. search needs) (λ c. search needs) (λ c κs. search needs) returns returns-2)

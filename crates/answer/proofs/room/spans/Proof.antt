@@ -6,7 +6,7 @@ use Rattle.answer.proofs.room.spans.Statement.{statement}
 use Rattle.answer.proofs.room.spans.Tie as tie
 
 returns : tie.Need-returns
-returns c = sym (length-replicate {A = ℕ} 65536 0)
+returns c = sym (length-replicate {A = ℕ} 87376 0)
 
 pub spans-spec : {M : Type 1} → statement M
 spans-spec = tie.close (tie.spec returns)
