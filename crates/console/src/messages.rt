@@ -48,7 +48,7 @@ fn say_refusal(refusal: Refusal, advice: &[u8]) {
     say_number(number as usize);
     say(b", ");
     say_row(
-        b"record\nlength\nplaces\nroom\nNUL\nline break\nscript\n",
+        b"record\nlength\nplaces\nroom\nNUL\nline break\nscript\nentry\n",
         number,
     );
     say(b", place ");
@@ -94,6 +94,22 @@ Shorten the entries or leave some out: README.md has the limit under Refusals.
 
 Lend room for the whole block.
 Take the NUL out: the entry would end there.
+",
+    );
+}
+
+// A block was not read. The place is the first bad entry.
+pub fn block_unread(refusal: Refusal) {
+    say_refusal(
+        refusal,
+        b"
+Hand over the front of the dump alone, as head -c does: README.md has the limit under Refusals, in units of two bytes.
+Lend a table with two places for each entry.
+
+
+
+
+Dump the whole block, from its first unit to its final NUL: each entry has a = behind its first unit and ends at NUL.
 ",
     );
 }

@@ -60,15 +60,41 @@ pub fn say_result(what: &[u8], units: &[u16]) {
     say(b"\n");
 }
 
-// An argument in brackets, so that blanks at its ends show.
+// Units in brackets, so that blanks at their ends show, and the line's end.
+pub fn say_bracketed(units: &[u16]) {
+    say(b"[");
+    say_text(units);
+    say(b"]\n");
+}
+
+// An argument.
 pub fn say_argument(index: usize, units: &[u16]) {
     say(b"argument ");
     say_number(index);
     say(b", ");
     say_units(units.len());
+    say(b": ");
+    say_bracketed(units);
+}
+
+// An entry, in brackets too: key and value have their `=` between them.
+pub fn say_entry(number: usize, key: &[u16], value: &[u16]) {
+    say(b"entry ");
+    say_number(number);
     say(b": [");
-    say_text(units);
+    say_text(key);
+    say(b"=");
+    say_text(value);
     say(b"]\n");
+}
+
+// What stands behind the units that are used.
+pub fn say_behind(units: &[u16]) {
+    if units.len() == 0 {
+        say(b", nothing stands behind them\n");
+        return;
+    }
+    say_result(b"\nbehind them", units);
 }
 
 // What is wrong with a word of the call, counted from the command on.
@@ -90,19 +116,17 @@ pub fn no_room(index: usize) {
 pub fn no_utf8(index: usize, front: &[u16], bytes: usize) {
     say_error(index, b" is no UTF-8: no character begins at its byte ");
     say_number(bytes);
-    say(b", behind [");
-    say_text(front);
-    say(b"]\n");
+    say(b", behind ");
+    say_bracketed(front);
 }
 
 // A word that is no entry.
 pub fn no_entry(index: usize, units: &[u16]) {
     say_error(
         index,
-        b" is no entry: there is no = behind the first unit of [",
+        b" is no entry: there is no = behind the first unit of ",
     );
-    say_text(units);
-    say(b"]\n");
+    say_bracketed(units);
 }
 
 // What the tool does.
@@ -114,11 +138,13 @@ pub fn help() {
   lines write [--force] PROGRAM ARG..   the command line of a program, and the arguments read back from it
   lines batch [--force] SCRIPT ARG..    the command line that runs a batch script
   lines env KEY=VALUE..                 the environment block of these entries
+  lines entries FILE                    the entries of the environment block in a dump
   lines status NUMBER                   the text and the signed code of a finished process's status
   lines suffix PATH                     whether a path ends in .bat or .cmd
   lines help                            this page
 
 Words are UTF-8 and become UTF-16 units, which is what lengths count. --force puts quotes round each argument.
+A dump is the units' bytes, two each, the low one first; FILE is - where it comes by standard input.
 A unit that cannot be seen is shown as {hex}, and so are { and }: a tab is {9}, a NUL {0}.
 ",
     );

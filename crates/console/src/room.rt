@@ -4,21 +4,21 @@
 ghost use mathlib.Core.Path.{_≡_};
 ghost use lib.ListN.{length};
 
-// For the bytes of a word.
+// For the bytes of a word, or of a dump: two more than the longest block has, so that a longer dump shows.
 pub fn word() -> [u8; 131072]
     ensures { λ r. ⌜ 131072 ≡ length r ⌝ }
 {
     [0; 131072]
 }
 
-// For the units of all words.
+// For the units of all words, or of a dump.
 pub fn text() -> [u16; 70000]
     ensures { λ r. ⌜ 70000 ≡ length r ⌝ }
 {
     [0; 70000]
 }
 
-// For the records of all words: an argument has at least two units of a line, an entry three of a block.
+// For the records of all words, or the spans of a block's entries: an argument has at least two units of a line, an entry three of a block.
 pub fn table() -> [u32; 90000]
     ensures { λ r. ⌜ 90000 ≡ length r ⌝ }
 {
