@@ -46,7 +46,10 @@ pub fn cases() -> Vec<Case> {
     ]
 }
 
+/// Entries in order: keys and values.
+pub type Entries = Vec<(Vec<u16>, Vec<u16>)>;
+
 /// 60 entries in order.
-pub fn entries() -> Vec<(Vec<u16>, Vec<u16>)> {
+pub fn entries() -> Entries {
     (0..60).map(|i| (wide(&format!("VARIABLE_{i:02}")), wide(&format!(r"c:\program files\tool {i}\bin;d:\data\{i}")))).collect()
 }

@@ -1,5 +1,6 @@
 //! Measures the Rust and this library on the same inputs, in one run, call by call in turn: the best time of many rounds, and the ratio.
 mod binding;
+mod entries;
 mod inputs;
 mod ours;
 
@@ -123,4 +124,5 @@ fn main() {
     statuses(&mut ours);
     binding::rows();
     growth(&mut ours);
+    entries::rows(&mut ours);
 }

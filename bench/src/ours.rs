@@ -16,6 +16,7 @@ unsafe extern "C" {
     fn aslapush_make_envp(
         records: *const u32, records_len: usize, text: *const u16, text_len: usize, out: *mut u16, out_len: usize, answer: *mut [u64; 4],
     ) -> u32;
+    fn aslapush_read_envp(block: *const u16, block_len: usize, spans: *mut u32, spans_len: usize, answer: *mut [u64; 4]) -> u32;
     fn aslapush_status_text(status: u32, out: *mut u16, out_len: usize, answer: *mut [u64; 4]) -> u32;
 }
 
@@ -55,7 +56,7 @@ pub struct Buffers {
 
 impl Buffers {
     pub fn new() -> Buffers {
-        Buffers { out: vec![0; aslapush::BLOCK_UNITS], spans: vec![0; aslapush::READ_UNITS + 1] }
+        Buffers { out: vec![0; aslapush::BLOCK_UNITS], spans: vec![0; 87_376] }
     }
 
     fn built(&self, number: u32, answer: [u64; 4]) -> &[u16] {
@@ -93,6 +94,14 @@ impl Buffers {
             )
         };
         self.built(number, answer)
+    }
+
+    /// How many entries a block has, and how many units they take.
+    pub fn entries(&mut self, block: &[u16]) -> (usize, usize) {
+        let mut answer = [0; 4];
+        let number = unsafe { aslapush_read_envp(block.as_ptr(), block.len(), self.spans.as_mut_ptr(), self.spans.len(), &mut answer) };
+        assert_eq!(number, 0);
+        (answer[1] as usize, answer[2] as usize)
     }
 
     pub fn status(&mut self, status: u32) -> usize {
