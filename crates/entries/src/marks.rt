@@ -5,8 +5,8 @@ ghost use Prim.Native.Nat.{_<_};
 ghost use lib.ListN.{length};
 ghost use Rattle.rules.specs.BlockReading.{startsWithNul};
 ghost use Rattle.entries.specs.Measured.{Measured};
-use scans::find_far_nul;
 use scans::find_near;
+use scans::find_nul;
 
 // How many units key and value of an entry have. No units of key say that no good entry stands there: a good one has some.
 pub struct Sizes {
@@ -28,7 +28,7 @@ pub fn measure_entry(rest: &[u16]) -> Sizes
         return Sizes { key: 0, value: 0 };
     }
     let from = key + 1;
-    let value = find_far_nul(&rest[from..]);
+    let value = find_nul(&rest[from..]);
     if from + value == rest.len() {
         return Sizes { key: 0, value: 0 };
     }

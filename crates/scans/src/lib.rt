@@ -175,13 +175,6 @@ pub fn find_any(units: &[u16], a: u16, b: u16, c: u16, d: u16) -> usize
     find_by_eights(units, front, a, b, c, d)
 }
 
-// The index of the first NUL, or the length where there is none.
-pub fn find_nul(units: &[u16]) -> usize
-    ensures { λ r. ⌜ r ≡ before isNul (now (units .entry)) ⌝ }
-{
-    find_any(units, 0, 0, 0, 0)
-}
-
 // The index of the first unit that is a or b, or the length where there is none, one unit after another: for what is near.
 pub fn find_near(units: &[u16], a: u16, b: u16) -> usize
     ensures { λ r. ⌜ r ≡ before (isEither a b) (now (units .entry)) ⌝ }
@@ -189,9 +182,9 @@ pub fn find_near(units: &[u16], a: u16, b: u16) -> usize
     find_slowly(units, a, b, a, b)
 }
 
-// The index of the first NUL, or the length where there is none, by eights from the first unit on: for what is far. The loop is its own, because the one
-// for any four units is compiled once and compares with all four.
-pub fn find_far_nul(units: &[u16]) -> usize
+// The index of the first NUL, or the length where there is none, by eights: it ends a line or a value, and is far. The loop is its own, because the one for
+// any four units is compiled once and compares with all four.
+pub fn find_nul(units: &[u16]) -> usize
     ensures { λ r. ⌜ r ≡ before isNul (now (units .entry)) ⌝ }
 {
     let mut i = 0;

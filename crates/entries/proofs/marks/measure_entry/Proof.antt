@@ -22,11 +22,11 @@ inside : (c : tie.After-find-near) → 1 + c .find-near .result ≤ length (c .b
 inside c = mark-inside _ _ (begun c)
 
 -- what the second scan found behind the mark
-found : (c : tie.After-find-far-nul) → let at-find-near = c .before .before .before .before .before in
-    c .find-far-nul .result ≡ before isNul (drop (1 + at-find-near .find-near .result + 1) (at-find-near .before .before .before .args .rest .now))
+found : (c : tie.After-find-nul) → let at-find-near = c .before .before .before .before .before in
+    c .find-nul .result ≡ before isNul (drop (1 + at-find-near .find-near .result + 1) (at-find-near .before .before .before .args .rest .now))
 found c =
     let at-find-near = c .before .before .before .before .before in
-    c .find-far-nul .ensures ∙ ap (before isNul) (part-is (1 + at-find-near .find-near .result + 1) (at-find-near .before .before .before .args .rest .now))
+    c .find-nul .ensures ∙ ap (before isNul) (part-is (1 + at-find-near .find-near .result + 1) (at-find-near .before .before .before .args .rest .now))
 
 mul-find-near : tie.Need-mul-find-near
 mul-find-near c = search needs
@@ -63,20 +63,20 @@ returns-2 c =
 add-from : tie.Need-add-from
 add-from c = omega (arith, inside (c .before .before .before))
 
-mul-find-far-nul : tie.Need-mul-find-far-nul
-mul-find-far-nul c = omega (arith, inside (c .before .before .before))
+mul-find-nul : tie.Need-mul-find-nul
+mul-find-nul c = omega (arith, inside (c .before .before .before))
 
-sub-find-far-nul : tie.Need-sub-find-far-nul
-sub-find-far-nul c = omega (arith, inside (c .before .before .before), c .before .before .if1 .left)
+sub-find-nul : tie.Need-sub-find-nul
+sub-find-nul c = omega (arith, inside (c .before .before .before), c .before .before .if1 .left)
 
-part-find-far-nul-start : tie.Need-part-find-far-nul-start
-part-find-far-nul-start c = omega (arith, inside (c .before .before .before), c .before .before .if1 .left)
+part-find-nul-start : tie.Need-part-find-nul-start
+part-find-nul-start c = omega (arith, inside (c .before .before .before), c .before .before .if1 .left)
 
-part-find-far-nul-end : tie.Need-part-find-far-nul-end
-part-find-far-nul-end c = search needs
+part-find-nul-end : tie.Need-part-find-nul-end
+part-find-nul-end c = search needs
 
-find-far-nul-requires : tie.Need-find-far-nul-requires
-find-far-nul-requires c κs = search needs
+find-nul-requires : tie.Need-find-nul-requires
+find-nul-requires c κs = search needs
 
 add-if3 : tie.Need-add-if3
 add-if3 c =
@@ -117,11 +117,11 @@ measure-entry-spec =
     shared-slice-read-if2
     returns-2
     add-from
-    mul-find-far-nul
-    sub-find-far-nul
-    part-find-far-nul-start
-    part-find-far-nul-end
-    find-far-nul-requires
+    mul-find-nul
+    sub-find-nul
+    part-find-nul-start
+    part-find-nul-end
+    find-nul-requires
     add-if3
     returns-3
     returns-4)
