@@ -5,19 +5,16 @@ use mathlib.Core.Path.{_≡_, refl, ap, _∙_}
 use mathlib.Core.List.{List}
 use lib.ListN.{length}
 use borrow.Author.Tests.{lt-ltb, le-ltb}
+use Rattle.laws.specs.Fault.{placed}
 use Rattle.laws.specs.Store.{sets-front}
 use Rattle.rules.specs.declared.Filled.the-variants as Filled
 use Rattle.rules.specs.declared.Refusal.the-variants as Refusal
-use Rattle.rules.specs.Outcome.{faultless, Fault, firstFault, unless, limited}
+use Rattle.rules.specs.Outcome.{faultless, firstFault, unless, limited}
 use Rattle.rules.specs.Record.{entryFault, entriesOf}
 use Rattle.rules.specs.Block.{blockLimit, block, entryNulFinding, environmentBlock}
 use Rattle.rules.specs.Answer.{Answered, filledSaid, wrote}
 use Rattle.blocks.proofs.Entries.{counts-for}
-use Rattle.blocks.specs.Entries.{placed, Written, blockUntilPast}
-
--- place 0 is no fault
-pub no-place : {f : Fault} (number : ℕ) {place : ℕ} → f ≡ placed number place → place ≡ 0 → f ≡ faultless
-no-place number h z = rw z at h
+use Rattle.blocks.specs.Entries.{Written, blockUntilPast}
 
 in-order : (records text : List ℕ) (room : ℕ)
     → environmentBlock records text room

@@ -9,7 +9,8 @@ use Rattle.rules.specs.Unit.{isNul}
 use Rattle.rules.specs.Outcome.{Finding, sound, wrong, wrongIf, faultless, fault, faultFrom, firstFault}
 use Rattle.rules.specs.Record.{whole, judged, EntryRecord, entryFinding, Entry}
 use Rattle.rules.specs.Block.{entryNulFinding}
-use Rattle.blocks.specs.Entries.{isOutside, hasNul, placed}
+use Rattle.laws.specs.Fault.{placed}
+use Rattle.blocks.specs.Entries.{isOutside, hasNul}
 
 -- none before the place is at fault, and the rest starts with the record of that place
 pub record Seeking {A : Type 0} (find : A → Finding) (all : List A) (place : ℕ) (rest : List A) : Type 0 where

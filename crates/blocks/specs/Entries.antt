@@ -1,5 +1,5 @@
 -- What the routines under the environment block promise. Assumes nothing.
-use Prim.Native.Nat.{ℕ, zero, suc, _+_}
+use Prim.Native.Nat.{ℕ, _+_}
 use mathlib.Core.Path.{_≡_}
 use mathlib.Core.Bool.{Bool}
 use mathlib.Core.List.{List, [], _∷_, _++_}
@@ -8,7 +8,6 @@ use lib.ListN.{length, getD}
 use lib.Seq.{sets}
 use Rattle.rules.specs.Choice.{pick, either, any}
 use Rattle.rules.specs.Unit.{isNul, nul, equals}
-use Rattle.rules.specs.Outcome.{Fault, faultless, fault}
 use Rattle.rules.specs.Record as rules
 use Rattle.rules.specs.Record.{Entry, exceeds}
 use Rattle.blocks.specs.declared.entry_records.EntryRecord.{EntryRecord}
@@ -31,11 +30,6 @@ isOutside text r = either (exceeds text (r .keyStart) (r .keyLen)) (exceeds text
 -- the key or the value has a NUL
 abbrev pub hasNul : Entry → Bool
 hasNul e = either (any isNul (e .key)) (any isNul (e .value))
-
--- a fault by its place; 0 is no place
-abbrev pub placed : ℕ → ℕ → Fault
-placed number zero = faultless
-placed number (suc place) = fault number (suc place)
 
 -- ---- units
 

@@ -2,7 +2,7 @@
 use Prim.Native.Nat.{ℕ, zero, suc, _*_, _/_, _≤_, _<_}
 use native.Mathlib.Omega.{arith}
 use borrow.Author.Tests.{lt-ltb, le-ltb}
-use mathlib.Core.Path.{_≡_, refl, sym, ap, _∙_}
+use mathlib.Core.Path.{_≡_, refl, sym, _∙_}
 use mathlib.Core.List.{List}
 use lib.ListN.{length}
 use lib.Dec.{ltb}
@@ -14,9 +14,10 @@ use Rattle.rules.specs.Reading.{placesOf}
 use Rattle.rules.specs.Answer.{Listing}
 use Rattle.rules.specs.Block.{blockLimit}
 use Rattle.rules.specs.BlockReading.{lentEntries, pieceFinding, entriesRead, entrySpans, blockReading}
+use Rattle.laws.specs.Fault.{placed, no-place}
 use Rattle.laws.specs.Store.{sets-front}
 use Rattle.laws.specs.EntrySpans.{entry-spans-length}
-use Rattle.entries.specs.Tallied.{placed, Tallied}
+use Rattle.entries.specs.Tallied.{Tallied}
 
 in-order : (lent : List ℕ) (numbers : ℕ)
     → blockReading lent numbers
@@ -35,14 +36,14 @@ module _ (lent table : List ℕ) where
     pub by-entry : ¬ (bad ≡ 0) → Listing (blockReading lent (length table)) (Listed.Refused (Refusal.Entry bad)) table table
     by-entry nz = go bad (told .judges) nz
       where
-        go : (bad : ℕ) → firstFault pieceFinding (lentEntries lent) ≡ placed bad → ¬ (bad ≡ 0)
+        go : (bad : ℕ) → firstFault pieceFinding (lentEntries lent) ≡ placed 8 bad → ¬ (bad ≡ 0)
             → Listing (blockReading lent (length table)) (Listed.Refused (Refusal.Entry bad)) table table
         go zero j nz = absurd (nz refl)
         go (suc place) j nz = rw (in-order, le-ltb blockLimit (length lent) short, j) (record { says = refl; tabulates = refl })
 
     module _ (z : bad ≡ 0) where
       none-bad : firstFault pieceFinding (lentEntries lent) ≡ faultless
-      none-bad = told .judges ∙ ap placed z
+      none-bad = no-place 8 (told .judges) z
 
       -- 3
       pub by-places : length table / 2 < 2 * count → Listing (blockReading lent (length table)) (Listed.Refused Refusal.Places) table table
@@ -63,6 +64,6 @@ module _ (lent table : List ℕ) where
           rw (in-order, le-ltb blockLimit (length lent) short, none-bad, le-ltb (placesOf (length table)) (2 * length es) l)
           (record { says = rw (c, told .uses z); tabulates = stored (none bad′ (sym (again .judges) ∙ none-bad)) ∙ sets-front table (entrySpans es) n })
         where
-          none : (place : ℕ) → placed place ≡ faultless → place ≡ 0
+          none : (place : ℕ) → placed 8 place ≡ faultless → place ≡ 0
           none zero e = refl
           none (suc place) e = cc

@@ -3,23 +3,19 @@ use Prim.Native.Nat.{ℕ, suc, _+_, _≤_, _<_}
 use native.Mathlib.Omega.{arith}
 use borrow.Author.Tests.{eqb-true, ne-eqb}
 use mathlib.Core.Path.{_≡_, refl, sym, ap, _∙_}
-use mathlib.Core.Bool.{Bool, true, false}
+use mathlib.Core.Bool.{true, false}
 use mathlib.Core.List.{List, [], _∷_, _++_, append-assoc}
 use lib.ListN.{length, getD, take, drop, length-drop}
 use lib.Seq.{drop-drop, length-take-le}
 use Rattle.rules.specs.Choice.{flip, any}
-use Rattle.rules.specs.Unit.{isNul, nul, equals}
-use Rattle.rules.specs.BlockReading.{startsWithNul, isEquals}
+use Rattle.rules.specs.Unit.{isNul, isEquals, nul, equals}
+use Rattle.rules.specs.BlockReading.{startsWithNul}
 use Rattle.laws.specs.Choice.{joint}
 use Rattle.laws.specs.Nul.{Clean}
 use Rattle.laws.specs.Scan.{before, isEither, leading-in}
 use Rattle.laws.specs.Found.{before-none, before-met, before-all, parted-at, none-either}
 use Rattle.laws.specs.BadEntry.{Cause, runs, unsplit}
 use Rattle.entries.specs.Measured.{Stands}
-
--- a NUL or a `=`
-abbrev isMark : ℕ → Bool
-isMark = isEither 0 61
 
 -- the rest starts with a unit that is no NUL, and behind it so many units stand before the next mark
 pub record Begun (rest : List ℕ) (near : ℕ) : Type 0 where

@@ -27,7 +27,7 @@ use Rattle.entries.specs.Tallied.{Tallied}
 -- ---- what is passed
 
 -- the good entries up to a place of the block, so many, and their spans in the table
-pub record Passed (lent before table : List ℕ) (at count : ℕ) : Type 0 where
+pub record Walking (lent before table : List ℕ) (at count : ℕ) : Type 0 where
   pub entries : List Entry
   pub plain : AllPlain entries
   pub counted : length entries ≡ count
@@ -36,13 +36,13 @@ pub record Passed (lent before table : List ℕ) (at count : ℕ) : Type 0 where
   pub stored : table ≡ sets before 0 (entrySpans entries)
 
 -- at the start there are none
-pub none-passed : (lent table : List ℕ) → Passed lent table table 0 0
+pub none-walked : (lent table : List ℕ) → Walking lent table table 0 0
 unfolding entryUnits
-none-passed lent table = record { entries = []; plain = tt; counted = refl; sizes = refl; stands = refl; stored = refl }
+none-walked lent table = record { entries = []; plain = tt; counted = refl; sizes = refl; stands = refl; stored = refl }
 
 -- no more entries than units
-pub passed-few : {lent before table : List ℕ} {at count : ℕ} → Passed lent before table at count → count ≤ at
-passed-few p = omega (arith, p .counted, p .sizes, plain-sizes (p .entries) (p .plain))
+pub walked-few : {lent before table : List ℕ} {at count : ℕ} → Walking lent before table at count → count ≤ at
+walked-few p = omega (arith, p .counted, p .sizes, plain-sizes (p .entries) (p .plain))
 
 -- an entry lies in the rest
 pub stands-inside : {rest : List ℕ} {key value : ℕ} → Stands rest key value → key + value + 2 ≤ length rest
@@ -53,9 +53,9 @@ stands-inside {rest} {key} {value} s =
     omega (arith, s .key-units, s .value-units)
 
 -- one entry more
-pub one-passed : {lent before table table′ : List ℕ} {at count key value : ℕ} → Passed lent before table at count → Stands (drop at lent) key value
-    → table′ ≡ sets table (4 * count) (at ∷ key ∷ (at + key + 1) ∷ value ∷ []) → Passed lent before table′ (at + (key + value + 2)) (count + 1)
-one-passed {lent} {before} {table} {table′} {at} {count} {key} {value} p s t =
+pub one-walked : {lent before table table′ : List ℕ} {at count key value : ℕ} → Walking lent before table at count → Stands (drop at lent) key value
+    → table′ ≡ sets table (4 * count) (at ∷ key ∷ (at + key + 1) ∷ value ∷ []) → Walking lent before table′ (at + (key + value + 2)) (count + 1)
+one-walked {lent} {before} {table} {table′} {at} {count} {key} {value} p s t =
     let es = p .entries in
     let e = s .entry in
     let d : drop (key + value + 2) (drop at lent) ≡ drop (at + (key + value + 2)) lent = drop-drop (key + value + 2) at lent in
@@ -75,9 +75,9 @@ one-passed {lent} {before} {table} {table′} {at} {count} {key} {value} p s t =
     }
 
 -- four numbers stored one after the other
-pub four-stored : (t : List ℕ) (i a b c d : ℕ) {t₁ t₂ t₃ t₄ : List ℕ} → t₁ ≡ set t (4 * i) a → t₂ ≡ set t₁ (4 * i + 1) b → t₃ ≡ set t₂ (4 * i + 2) c
+pub entry-stored : (t : List ℕ) (i a b c d : ℕ) {t₁ t₂ t₃ t₄ : List ℕ} → t₁ ≡ set t (4 * i) a → t₂ ≡ set t₁ (4 * i + 1) b → t₃ ≡ set t₂ (4 * i + 2) c
     → t₄ ≡ set t₃ (4 * i + 3) d → t₄ ≡ sets t (4 * i) (a ∷ b ∷ c ∷ d ∷ [])
-four-stored t i a b c d h₁ h₂ h₃ h₄ =
+entry-stored t i a b c d h₁ h₂ h₃ h₄ =
     let e₁ : 4 * i + 1 ≡ suc (4 * i) = omega arith in
     let e₂ : 4 * i + 2 ≡ suc (suc (4 * i)) = omega arith in
     let e₃ : 4 * i + 3 ≡ suc (suc (suc (4 * i))) = omega arith in
@@ -96,7 +96,7 @@ bad-told lent i b =
     }
 
 -- behind those that are passed there is none
-pub bad-met : {lent before table : List ℕ} {at count : ℕ} → Passed lent before table at count → Cause (drop at lent) → Tallied lent (count + 1) 0 0
+pub bad-met : {lent before table : List ℕ} {at count : ℕ} → Walking lent before table at count → Cause (drop at lent) → Tallied lent (count + 1) 0 0
 bad-met {lent} {count = count} p c = bad-told lent count (behind (p .entries) _ (p .plain) (p .counted) (p .stands) c)
 
 -- the block ends there, without its final NUL
@@ -132,7 +132,7 @@ none-told (x ∷ y ∷ ys) s t =
     good-told (x ∷ y ∷ ys) [] ys 0 2 tt (rw (z, w)) zero-le refl refl .0
 
 -- the final NUL behind entries: what is told, and what the table holds
-pub final-met : {lent before table : List ℕ} {at count : ℕ} → Passed lent before table at count → at < length lent → getD lent at 0 ≡ 0 → ¬ (count ≡ 0)
+pub final-met : {lent before table : List ℕ} {at count : ℕ} → Walking lent before table at count → at < length lent → getD lent at 0 ≡ 0 → ¬ (count ≡ 0)
     → Tallied lent 0 count (at + 1) × (table ≡ sets before 0 (entrySpans (entriesRead lent)))
 final-met {lent} {before} {table} {at} {count} p l z n = go (p .entries) (p .plain) (p .counted) (p .sizes) (p .stands) (p .stored)
   where
@@ -145,16 +145,16 @@ final-met {lent} {before} {table} {at} {count} p l z n = go (p .entries) (p .pla
     go (e ∷ more) plain counted sizes stands stored =
         let same : lent ≡ block (e ∷ more) ++ drop (at + 1) lent =
         stands ∙ ap (λ (l : List ℕ). entryUnits (e ∷ more) ++ l) here ∙ sym (block-front e more (drop (at + 1) lent)) in
-        let few : count ≤ length lent = omega (arith, passed-few p) in
+        let few : count ≤ length lent = omega (arith, walked-few p) in
         let (told, gives) = good-told lent (e ∷ more) (drop (at + 1) lent) count (at + 1) plain same few counted (ap (λ (n : ℕ). n + 1) sizes) in
         (told, rw gives stored)
 
 -- ---- a block that starts with NUL
 
 -- where a NUL stands and nothing is passed, the block starts with it, and the table is as it was
-pub nothing-passed : {lent before table : List ℕ} {at count : ℕ} → Passed lent before table at count → count ≡ 0 → at < length lent → getD lent at 0 ≡ 0
+pub nothing-walked : {lent before table : List ℕ} {at count : ℕ} → Walking lent before table at count → count ≡ 0 → at < length lent → getD lent at 0 ≡ 0
     → (startsWithNul lent ≡ true) × (table ≡ before)
-nothing-passed {lent} {before} {table} {at} {count} p n l z = go (p .entries) (p .counted) (p .sizes) (p .stored)
+nothing-walked {lent} {before} {table} {at} {count} p n l z = go (p .entries) (p .counted) (p .sizes) (p .stored)
   where
     starts : (xs : List ℕ) (i : ℕ) → i ≡ 0 → i < length xs → getD xs i 0 ≡ 0 → startsWithNul xs ≡ true
     starts [] i e l z = absurd (omega arith)

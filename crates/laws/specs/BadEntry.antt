@@ -8,14 +8,14 @@ use mathlib.Core.Bool.{Bool, true, false}
 use mathlib.Core.List.{List, [], _∷_, _++_}
 use lib.ListN.{length, drop}
 use Rattle.rules.specs.Choice.{any, isEmpty}
-use Rattle.rules.specs.Unit.{isNul, nul}
+use Rattle.rules.specs.Unit.{isNul, isEquals, nul}
 use Rattle.rules.specs.Outcome.{wrong}
 use Rattle.rules.specs.Record.{Lent, whole, cut, Entry}
 use Rattle.rules.specs.Block.{block, entryUnits}
-use Rattle.rules.specs.BlockReading.{pieces, beforeFinal, lentEntries, startsWithNul, isEquals, splits, splitOf, pieceFinding, entriesRead}
+use Rattle.rules.specs.BlockReading.{pieces, beforeFinal, lentEntries, startsWithNul, splits, splitOf, pieceFinding, entriesRead}
 use Rattle.laws.specs.Choice.{clash, apart}
 use Rattle.laws.specs.Nul.{Clean}
-use Rattle.laws.specs.Fault.{Sound, FirstWrong, first-wrong, all-sound}
+use Rattle.laws.specs.Fault.{Sound, FirstWrong, never, first-wrong, all-sound}
 use Rattle.laws.specs.Entry.{Plain, AllPlain, textOf, split-is, first-units}
 use Rattle.laws.specs.Pieces.{piece-ended, piece-cut, before-final, asPieces, pieces-front, sound-pieces, starts-clean, starts-entry, block-front, good}
 
@@ -108,10 +108,10 @@ data Course (xs : List ℕ) : Type 0 where
   ends : (entries : List Entry) (rest : List ℕ) → AllPlain entries → xs ≡ entryUnits entries ++ nul ∷ rest → Course xs
   stops : (entries : List Entry) (rest : List ℕ) → AllPlain entries → xs ≡ entryUnits entries ++ rest → Cause rest → Course xs
 
-one-more : (xs rest : List ℕ) (e : Entry) → Plain e → xs ≡ textOf e ++ nul ∷ rest → Course rest → Course xs
-one-more xs rest e p same (ends es more h f) =
+entry-more : (xs rest : List ℕ) (e : Entry) → Plain e → xs ≡ textOf e ++ nul ∷ rest → Course rest → Course xs
+entry-more xs rest e p same (ends es more h f) =
     ends (e ∷ es) more (p, h) (same ∙ ap (λ (l : List ℕ). textOf e ++ nul ∷ l) f ∙ sym (first-units e es (nul ∷ more)))
-one-more xs rest e p same (stops es more h f c) =
+entry-more xs rest e p same (stops es more h f c) =
     stops (e ∷ es) more (p, h) (same ∙ ap (λ (l : List ℕ). textOf e ++ nul ∷ l) f ∙ sym (first-units e es more)) c
 
 -- by the pieces, so that the rest of a slice is less than the slice
@@ -130,7 +130,7 @@ course (p ∷ more) xs e = go (start xs) (course more)
     split : (y : ℕ) (ys rest : List ℕ) → Clean (y ∷ ys) → xs ≡ (y ∷ ys) ++ nul ∷ rest → (b : Bool) → any isEquals ys ≡ b → Course rest → Course xs
     split y ys rest h same true s next =
         let q = split-is y ys h s in
-        one-more xs rest (splitOf (y ∷ ys)) (q .plain) (same ∙ ap (λ (l : List ℕ). l ++ nul ∷ rest) (q .text)) next
+        entry-more xs rest (splitOf (y ∷ ys)) (q .plain) (same ∙ ap (λ (l : List ℕ). l ++ nul ∷ rest) (q .text)) next
     split y ys rest h same false s next = stops [] xs tt refl (unsplit (y ∷ ys) rest same h refl s)
 
     go : Start xs → ((rest : List ℕ) → pieces rest ≡ more → Course rest) → Course xs
@@ -163,20 +163,18 @@ look lent = go (startsWithNul lent) refl
 
 -- ---- exactly so
 
--- a search does not both find a fault and find none
-never : {B : Type 0} (lent : List ℕ) (i : ℕ) → Sound pieceFinding (lentEntries lent) → FirstWrong pieceFinding 8 i (lentEntries lent) → B
-never lent i s w =
-    let none = all-sound pieceFinding (lentEntries lent) .1 s in
-    let one = first-wrong pieceFinding 8 i (lentEntries lent) .1 w in
-    let z : _≡_ {A = ℕ} 0 1 = cc in
-    absurd (omega arith)
+-- no entry is bad, or one is the first
+not-both : {B : Type 0} (lent : List ℕ) (i : ℕ) → Sound pieceFinding (lentEntries lent) → FirstWrong pieceFinding 8 i (lentEntries lent) → B
+not-both lent i s w =
+    never {number = 8} {place = i + 1}
+    (sym (all-sound pieceFinding (lentEntries lent) .1 s) ∙ first-wrong pieceFinding 8 i (lentEntries lent) .1 w)
 
 -- entry i is found bad exactly by one of the causes
 pub bad-exactly : (lent : List ℕ) (i : ℕ) → FirstWrong pieceFinding 8 i (lentEntries lent) ↔ Bad lent i
 bad-exactly lent i = (λ w. go (look lent) w, bad lent i)
   where
     go : Look lent → FirstWrong pieceFinding 8 i (lentEntries lent) → Bad lent i
-    go (fine es rest p same) w = never lent i (good lent es rest p same .sound) w
+    go (fine es rest p same) w = not-both lent i (good lent es rest p same .sound) w
     go (poor j b) w =
         let here = first-wrong pieceFinding 8 i (lentEntries lent) .1 w in
         let there = first-wrong pieceFinding 8 j (lentEntries lent) .1 (bad lent j b) in
@@ -195,4 +193,4 @@ rebuilt lent s = go (look lent)
   where
     go : Look lent → Rebuilt lent
     go (fine es rest p same) = let g = good lent es rest p same .gives in record { rest = rest; same = rw g same; plain = rw g p }
-    go (poor j b) = never lent j s (bad lent j b)
+    go (poor j b) = not-both lent j s (bad lent j b)

@@ -7,10 +7,10 @@ use mathlib.Core.Bool.{Bool, true, false}
 use mathlib.Core.List.{List, [], _∷_, _++_, append-assoc}
 use lib.ListN.{length, length-append, drop}
 use Rattle.rules.specs.Choice.{pick, either, any, isEmpty}
-use Rattle.rules.specs.Unit.{isNul, nul, equals}
+use Rattle.rules.specs.Unit.{isNul, isEquals, nul, equals}
 use Rattle.rules.specs.Record.{Entry}
 use Rattle.rules.specs.Block.{block, entryUnits}
-use Rattle.rules.specs.BlockReading.{isEquals, beforeEquals, behindEquals, splits, splitOf, entrySize, entrySizes, unitsUsed}
+use Rattle.rules.specs.BlockReading.{beforeEquals, behindEquals, splits, splitOf, entrySize, entrySizes, unitsUsed}
 use Rattle.laws.specs.Choice.{clash, apart, joint, any-behind, apart-lists}
 use Rattle.laws.specs.Nul.{Clean}
 
@@ -93,11 +93,11 @@ reads e p = go (e .key) (e .value) (p .some) (p .once) (p .key-clean) (p .value-
 -- ---- units that split are an entry
 
 -- they are its key, `=` and its value, and it can be written
-pub record Splits (a : List ℕ) : Type 0 where
+pub record SplitsInto (a : List ℕ) : Type 0 where
   pub text : a ≡ textOf (splitOf a)
   pub plain : Plain (splitOf a)
 
-pub split-is : (y : ℕ) (ys : List ℕ) → Clean (y ∷ ys) → any isEquals ys ≡ true → Splits (y ∷ ys)
+pub split-is : (y : ℕ) (ys : List ℕ) → Clean (y ∷ ys) → any isEquals ys ≡ true → SplitsInto (y ∷ ys)
 unfolding splitOf
 split-is y ys h s =
     let j = parted ys s in

@@ -31,9 +31,9 @@ last-spans start (f ∷ more) e =
 -- ---- one part
 
 -- the part that a start and a length name, where it stands behind a front
-named : (text front a rest : List ℕ) (start : ℕ) → text ≡ front ++ (a ++ rest) → start ≡ length front
+part-named : (text front a rest : List ℕ) (start : ℕ) → text ≡ front ++ (a ++ rest) → start ≡ length front
     → (part text start (length a) ≡ a) × (exceeds text start (length a) ≡ false)
-named text front a rest start e h =
+part-named text front a rest start e h =
     let l : length text ≡ length front + (length a + length rest) = ap length e ∙ simp length-append refl in
     (rw (e, h, drop-append-seam front (a ++ rest)) (take-append-seam a rest), le-ltb (length text) (start + length a) (omega arith))
 
@@ -74,9 +74,9 @@ spans-over text front rest start (x ∷ more) e h =
     let K = x .key in
     let W = x .value in
     let U = entryUnits more in
-    let (kn, kx) = named text front K (equals ∷ (W ++ nul ∷ (U ++ rest))) start (e ∙ at-key front K W U rest) h in
+    let (kn, kx) = part-named text front K (equals ∷ (W ++ nul ∷ (U ++ rest))) start (e ∙ at-key front K W U rest) h in
     let (vn, vx) =
-    named text (front ++ (K ++ equals ∷ [])) W (nul ∷ (U ++ rest)) (start + length K + 1) (e ∙ at-value front K W U rest) (simp length-append (omega arith)) in
+    part-named text (front ++ (K ++ equals ∷ [])) W (nul ∷ (U ++ rest)) (start + length K + 1) (e ∙ at-value front K W U rest) (simp length-append (omega arith)) in
     let next =
     spans-over text (front ++ ((K ++ equals ∷ W) ++ nul ∷ [])) rest (start + entrySize x) more (e ∙ at-next front K W U rest)
     (simp length-append (omega arith)) in

@@ -11,7 +11,7 @@ use mathlib.Core.List.{List, [], _∷_}
 use lib.Dec.{eqb}
 use lib.ListN.{take, getElem?}
 use Rattle.rules.specs.Choice.{any}
-use Rattle.rules.specs.Outcome.{Finding, sound, wrong, wrongIf, faultless, fault, faultFrom, firstFault}
+use Rattle.rules.specs.Outcome.{Finding, Fault, sound, wrong, wrongIf, faultless, fault, faultFrom, firstFault}
 use Rattle.rules.specs.Record.{whole, cut, judged}
 
 -- ---- findings
@@ -67,7 +67,7 @@ pub record FirstWrong {A : Type 0} (find : A → Finding) (number i : ℕ) (reco
   pub earlier : Sound find (take i records)
 
 -- a search does not both find a fault and find none
-never : {number place : ℕ} {B : Type 0} → faultless ≡ fault number place → B
+pub never : {number place : ℕ} {B : Type 0} → faultless ≡ fault number place → B
 never e = let z : _≡_ {A = ℕ} 0 1 = cc in absurd (omega arith)
 
 module _ {A : Type 0} (find : A → Finding) where
@@ -135,3 +135,14 @@ module _ {A : Type 0} (find : A → Finding) where
       go : Search 1 records → firstFault find records ≡ faultless → Sound find records
       go (clear s f) e = s
       go (caught m j w f) e = never {number = m} {place = 1 + j} (cc)
+
+-- ---- a fault by its place
+
+-- a fault by its number and its place; 0 is no place
+abbrev pub placed : ℕ → ℕ → Fault
+placed number zero = faultless
+placed number (suc place) = fault number (suc place)
+
+-- place 0 is no fault
+pub no-place : {f : Fault} (number : ℕ) {place : ℕ} → f ≡ placed number place → place ≡ 0 → f ≡ faultless
+no-place number h z = rw z at h

@@ -146,15 +146,19 @@ unfolding leading
 leading-same p q h [] = refl
 leading-same p q h (x ∷ xs) = rw (h x, leading-same p q h xs)
 
--- one unit looked for, named four times
-pub before-one : (a : ℕ) (xs : List ℕ) → before (isOneOf a a a a) xs ≡ before (isUnit a) xs
-before-one a xs = leading-same _ _ (λ x. rw (twice (isEither a a x), twice (isUnit a x))) xs
-
 -- two units looked for, each named twice
 pub before-two : (a b : ℕ) (xs : List ℕ) → before (isOneOf a b a b) xs ≡ before (isEither a b) xs
 before-two a b xs = leading-same _ _ (λ x. rw (twice (isEither a b x))) xs
 
 -- one unit looked for, named twice
+pub before-twice : (a : ℕ) (xs : List ℕ) → before (isEither a a) xs ≡ before (isUnit a) xs
+before-twice a xs = leading-same _ _ (λ x. rw (twice (isUnit a x))) xs
+
+-- or four times
+pub before-one : (a : ℕ) (xs : List ℕ) → before (isOneOf a a a a) xs ≡ before (isUnit a) xs
+before-one a xs = before-two a a xs ∙ before-twice a xs
+
+-- and so where it is only asked whether it is there
 pub any-twice : (a : ℕ) (xs : List ℕ) → any (isEither a a) xs ≡ any (isUnit a) xs
 any-twice a xs = any-same (isEither a a) (isUnit a) (λ x. twice (isUnit a x)) xs
 

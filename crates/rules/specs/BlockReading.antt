@@ -3,10 +3,10 @@
 use Prim.Native.Nat.{ℕ, _+_, _*_}
 use mathlib.Core.Bool.{Bool, false}
 use mathlib.Core.List.{List, [], _∷_, map}
-use lib.Dec.{eqb, ltb}
+use lib.Dec.{ltb}
 use lib.ListN.{length, drop}
 use Rattle.rules.specs.Choice.{pick, flip, any}
-use Rattle.rules.specs.Unit.{isNul, equals}
+use Rattle.rules.specs.Unit.{isNul, isEquals}
 use Rattle.rules.specs.Outcome.{Outcome, done, refuse, Finding, sound, wrong, wrongIf, faultFrom, firstFault, unless}
 use Rattle.rules.specs.Record.{Lent, whole, cut, wholes, Entry}
 use Rattle.rules.specs.Reading.{placesOf}
@@ -51,10 +51,6 @@ lentEntries lent =
     pick (startsWithNul lent) none some
 
 -- ---- where an entry splits
-
--- `=`
-abbrev pub isEquals : ℕ → Bool
-isEquals x = eqb x equals
 
 -- the units before the first `=`
 unfoldable pub beforeEquals : List ℕ → List ℕ

@@ -77,6 +77,10 @@ isPercent x = eqb x percent
 abbrev pub isBackslash : ℕ → Bool
 isBackslash x = eqb x backslash
 
+-- `=`
+abbrev pub isEquals : ℕ → Bool
+isEquals x = eqb x equals
+
 -- from the least to the most, both with it
 abbrev pub within : ℕ → ℕ → ℕ → Bool
 within least most x = both (leb least x) (leb x most)

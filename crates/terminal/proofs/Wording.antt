@@ -10,7 +10,8 @@ use borrow.Author.Tests.{le-leb, lt-leb}
 use Rattle.laws.specs.Scan.{before}
 use Rattle.laws.specs.Store.{part-is}
 use Rattle.terminal.specs.Number.{largest}
-use Rattle.terminal.specs.Word.{isEquals, keyLength, isPlace, Spanned}
+use Rattle.rules.specs.Unit.{isEquals}
+use Rattle.terminal.specs.Word.{keyLength, isPlace, Spanned}
 
 -- ---- an entry's key
 

@@ -4,12 +4,12 @@ use native.Mathlib.Omega.{arith}
 use mathlib.Core.Path.{_≡_, refl, sym, _∙_}
 use mathlib.Core.Bool.{Bool, true, false}
 use mathlib.Core.List.{List, [], _∷_}
-use lib.Dec.{eqb, leb}
+use lib.Dec.{leb}
 use lib.ListN.{length}
 use lib.Seq.{sets}
 use borrow.Author.Tests.{leb-true}
 use Rattle.rules.specs.Choice.{pick, both}
-use Rattle.rules.specs.Unit.{units, equals}
+use Rattle.rules.specs.Unit.{units, isEquals}
 use Rattle.laws.specs.Scan.{before}
 use Rattle.laws.specs.Equal.{equal}
 use Rattle.terminal.specs.Number.{largest}
@@ -35,10 +35,6 @@ commandOf word =
 unfoldable pub isForce : List ℕ → Bool
 unfolding equal units
 isForce word = equal word (units "--force")
-
--- an `=`
-abbrev pub isEquals : ℕ → Bool
-isEquals unit = eqb unit equals
 
 -- how long an entry's key is: up to the first `=` that is not the first unit, or to the end where there is none
 unfoldable pub keyLength : List ℕ → ℕ

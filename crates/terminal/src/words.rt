@@ -1,8 +1,10 @@
 // The words of a call: commands, entries, and the places of words in a text.
 ghost use mathlib.Core.Path.{_≡_};
 ghost use Rattle.laws.specs.Scan.{before};
-ghost use Rattle.terminal.specs.Word.{isEquals, smallCommandOf, commandOf, isForce, keyLength, Spanned};
+ghost use Rattle.rules.specs.Unit.{isEquals};
+ghost use Rattle.terminal.specs.Word.{smallCommandOf, commandOf, isForce, keyLength, Spanned};
 use octets::same;
+use scans::find_near;
 use stores::put_number;
 
 // What a call asks for.
@@ -63,14 +65,7 @@ pub fn is_force(word: &[u8]) -> bool
 fn find_equals(units: &[u16]) -> usize
     ensures { λ r. ⌜ r ≡ before isEquals (now (units .entry)) ⌝ }
 {
-    let mut i = 0;
-    while i < units.len() {
-        if units[i] == 61 {
-            return i;
-        }
-        i += 1;
-    }
-    i
+    find_near(units, 61, 61)
 }
 
 // How long an entry's key is. A key may begin with `=`, so the first unit is no end.

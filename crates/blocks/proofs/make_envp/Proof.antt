@@ -1,7 +1,8 @@
 -- `blocks::make_envp` meets its contract. Assumes nothing.
 use borrow.Author.Needs.{needs}
 use Rattle.rules.specs.Block.{blockLimit}
-use Rattle.blocks.proofs.Deciding.{by-block, by-length, by-nul, by-record, by-room, no-place}
+use Rattle.laws.specs.Fault.{no-place}
+use Rattle.blocks.proofs.Deciding.{by-block, by-length, by-nul, by-record, by-room}
 use Rattle.blocks.proofs.make_envp.Statement.{statement}
 use Rattle.blocks.proofs.make_envp.Tie as tie
 

@@ -1,7 +1,7 @@
 -- `entries::walking::put_entry` meets its contract. Assumes nothing.
 use borrow.Author.Needs.{needs}
 use Prim.Native.Nat.{_+_}
-use Rattle.entries.proofs.Passing.{four-stored}
+use Rattle.entries.proofs.Passing.{entry-stored}
 use Rattle.entries.proofs.walking.put_entry.Statement.{statement}
 use Rattle.entries.proofs.walking.put_entry.Tie as tie
 
@@ -66,7 +66,7 @@ returns c =
     let at-2 = at-3 .before .before .before .before in
     let at-1 = at-2 .before .before .before .before in
     let args = at-1 .before .before .before .args in
-    four-stored (args .spans .now) (args .i) (args .start) (args .key) (args .start + args .key + 1) (args .value)
+    entry-stored (args .spans .now) (args .i) (args .start) (args .key) (args .start + args .key + 1) (args .value)
     (at-1 .put-number .ensures)
     (at-2 .put-number2 .ensures)
     (at-3 .put-number3 .ensures)

@@ -7,13 +7,13 @@ use lib.ListN.{length, drop, length-drop}
 use Rattle.rules.specs.Block.{blockLimit}
 use Rattle.laws.specs.Store.{part-is}
 use Rattle.entries.specs.Measured.{Stands, Measured}
-use Rattle.entries.proofs.Passing.{Passed, none-passed, passed-few, stands-inside, one-passed}
-use Rattle.entries.proofs.Passing.{bad-met, ended, final-met, nothing-passed, none-read, rest-starts}
+use Rattle.entries.proofs.Passing.{Walking, none-walked, walked-few, stands-inside, one-walked}
+use Rattle.entries.proofs.Passing.{bad-met, ended, final-met, nothing-walked, none-read, rest-starts}
 use Rattle.entries.proofs.walking.walk.Statement.{statement}
 use Rattle.entries.proofs.walking.walk.Tie as tie
 
 abbrev Inv-loop : tie.InvT-loop
-Inv-loop block spans₀ at₀ count₀ spans at count = (at ≤ length block) × (length spans ≡ length spans₀) × Passed block spans₀ spans at count
+Inv-loop block spans₀ at₀ count₀ spans at count = (at ≤ length block) × (length spans ≡ length spans₀) × Walking block spans₀ spans at count
 
 abbrev μ-loop : tie.MeasureT-loop
 μ-loop block spans₀ at₀ count₀ spans at count = length block - at
@@ -38,7 +38,7 @@ inside c n =
     omega (arith, stands-inside (stands c n), length-drop (at-loop .loop .at) block, at-loop .loop .inv .0)
 
 loop-holds : tie.Need-loop-holds Inv-loop μ-loop
-loop-holds c = (search needs, refl, none-passed _ _)
+loop-holds c = (search needs, refl, none-walked _ _)
 
 mul-if1 : tie.Need-mul-if1 Inv-loop μ-loop
 mul-if1 c = search needs
@@ -49,7 +49,7 @@ shared-slice-read-if1 c = search needs
 no-entries-requires : tie.Need-no-entries-requires Inv-loop μ-loop
 no-entries-requires c κs =
     let l = c .before .before .before .before .loop in
-    nothing-passed (l .inv .2) (c .if2 .taken) (c .before .before .before .loop-test .taken) (c .before .if1 .taken) .0
+    nothing-walked (l .inv .2) (c .if2 .taken) (c .before .before .before .loop-test .taken) (c .before .if1 .taken) .0
 
 same-length : tie.Need-same-length Inv-loop μ-loop
 same-length c = search needs
@@ -58,7 +58,7 @@ returns : tie.Need-returns Inv-loop μ-loop
 returns c =
     let at-if1 = c .before .before in
     let at-loop = at-if1 .before .before .before in
-    let none = nothing-passed (at-loop .loop .inv .2) (c .before .if2 .taken) (at-if1 .before .before .loop-test .taken) (at-if1 .if1 .taken) in
+    let none = nothing-walked (at-loop .loop .inv .2) (c .before .if2 .taken) (at-if1 .before .before .loop-test .taken) (at-if1 .if1 .taken) in
     record { told = c .no-entries .ensures; stores = λ z. none .1 ∙ rw (none-read _ (none .0)) }
 
 add-t11 : tie.Need-add-t11 Inv-loop μ-loop
@@ -99,7 +99,7 @@ unfolding blockLimit
 add-bad-at c =
     let at-loop = c .before .before .before .before .before .before .before in
     let l = at-loop .loop in
-    omega (arith, passed-few (l .inv .2), l .inv .0, at-loop .before .before .before .pre)
+    omega (arith, walked-few (l .inv .2), l .inv .0, at-loop .before .before .before .pre)
 
 bad-at-requires : tie.Need-bad-at-requires Inv-loop μ-loop
 bad-at-requires c κs = search needs
@@ -123,7 +123,7 @@ put-entry-requires c κs =
     let l = at-loop .loop in
     let short = at-loop .before .before .before .pre in
     let fits = inside at-measured (c .before .if3 .left) in
-    let few = passed-few (l .inv .2) in
+    let few = walked-few (l .inv .2) in
     (omega arith, omega arith, omega arith, omega arith)
 
 add-at : tie.Need-add-at Inv-loop μ-loop
@@ -145,7 +145,7 @@ add-count : tie.Need-add-count Inv-loop μ-loop
 add-count c =
     let at-if3 = c .before .before .before .before .before in
     let at-loop = at-if3 .before .before .before .before .before .before .before in
-    omega (arith, passed-few (at-loop .loop .inv .2), inside (at-if3 .before .before) (at-if3 .if3 .left))
+    omega (arith, walked-few (at-loop .loop .inv .2), inside (at-if3 .before .before) (at-if3 .if3 .left))
 
 loop-less : tie.Need-loop-less Inv-loop μ-loop
 loop-less c =
@@ -157,13 +157,13 @@ loop-again c =
     let at-if3 = c .before .before .before .before .before in
     let at-loop = at-if3 .before .before .before .before .before .before .before in
     let good = stands (at-if3 .before .before) (at-if3 .if3 .left) in
-    (inside (at-if3 .before .before) (at-if3 .if3 .left), search needs, one-passed (at-loop .loop .inv .2) good (c .before .before .before .put-entry .ensures))
+    (inside (at-if3 .before .before) (at-if3 .if3 .left), search needs, one-walked (at-loop .loop .inv .2) good (c .before .before .before .put-entry .ensures))
 
 add-bad-at-2 : tie.Need-add-bad-at-2 Inv-loop μ-loop
 unfolding blockLimit
 add-bad-at-2 c =
     let l = c .before .loop in
-    omega (arith, passed-few (l .inv .2), l .inv .0, c .before .before .before .before .pre)
+    omega (arith, walked-few (l .inv .2), l .inv .0, c .before .before .before .before .pre)
 
 bad-at-requires-2 : tie.Need-bad-at-requires-2 Inv-loop μ-loop
 bad-at-requires-2 c κs = search needs

@@ -1,55 +1,15 @@
 -- `terminal::words::find_equals` meets its contract. Assumes nothing.
 use borrow.Author.Needs.{needs}
-use borrow.Author.Tests.{eq-eqb, ne-eqb}
-use Prim.Native.Nat.{_-_}
-use lib.ListN.{length}
-use Rattle.rules.specs.Choice.{flip}
-use Rattle.laws.specs.Scan.{Passed, all-passed, none-passed, one-more, stopped}
-use Rattle.terminal.specs.Word.{isEquals}
+use mathlib.Core.Path.{_∙_}
+use Rattle.laws.specs.Scan.{before-twice}
 use Rattle.terminal.proofs.words.find_equals.Statement.{statement}
 use Rattle.terminal.proofs.words.find_equals.Tie as tie
 
-abbrev Inv-loop : tie.InvT-loop
-Inv-loop units i₀ i = Passed (λ x. flip (isEquals x)) units i
+find-near-requires : tie.Need-find-near-requires
+find-near-requires c κs = search needs
 
-abbrev μ-loop : tie.MeasureT-loop
-μ-loop units i₀ i = length units - i
-
-loop-holds : tie.Need-loop-holds Inv-loop μ-loop
-loop-holds c = none-passed _ _
-
-mul-if1 : tie.Need-mul-if1 Inv-loop μ-loop
-mul-if1 c = search needs
-
-shared-slice-read-if1 : tie.Need-shared-slice-read-if1 Inv-loop μ-loop
-shared-slice-read-if1 c = search needs
-
-returns : tie.Need-returns Inv-loop μ-loop
-returns c = stopped _ _ _ (c .before .before .before .loop .inv) (c .before .before .loop-test .taken) (rw (eq-eqb _ 61 (c .if1 .taken)))
-
-add-i : tie.Need-add-i Inv-loop μ-loop
-add-i c = search needs
-
-loop-less : tie.Need-loop-less Inv-loop μ-loop
-loop-less c = search needs
-
-loop-again : tie.Need-loop-again Inv-loop μ-loop
-loop-again c = one-more _ _ _ (c .before .before .before .loop .inv) (c .before .before .loop-test .taken) (rw (ne-eqb _ 61 (c .if1 .left)))
-
-returns-2 : tie.Need-returns-2 Inv-loop μ-loop
-returns-2 c = all-passed _ _ _ (c .before .loop .inv) (c .loop-test .left)
+returns : tie.Need-returns
+returns c = c .find-near .ensures ∙ before-twice 61 _
 
 pub find-equals-spec : {M : Type 1} → statement M
-find-equals-spec =
-    tie.close
-    (tie.spec
-    Inv-loop
-    μ-loop
-    loop-holds
-    mul-if1
-    shared-slice-read-if1
-    returns
-    add-i
-    loop-less
-    loop-again
-    returns-2)
+find-equals-spec = tie.close (tie.spec find-near-requires returns)

@@ -4,7 +4,7 @@ use mathlib.Core.Path.{sym}
 use Rattle.terminal.proofs.Wording.{key-behind, no-key}
 use native.Mathlib.Omega.{arith}
 use Rattle.laws.specs.Scan.{leading-in}
-use Rattle.terminal.specs.Word.{isEquals}
+use Rattle.rules.specs.Unit.{isEquals}
 use Rattle.rules.specs.Choice.{flip}
 use Rattle.laws.specs.Store.{part-is}
 use lib.ListN.{drop, length-drop}
