@@ -30,7 +30,7 @@ class Judge:
     def expected(self, asked):
         """Whose answer it is, and the answer."""
         told = [line.split(' ', 1) for line in run([self.oracle, 'by'], asked)]
-        return [(model.document(q), by_model(q)) if q.startswith(model.UNASKED) else tuple(t) for q, t in zip(asked, told, strict=True)]
+        return [('documents', by_model(q)) if q.startswith(model.UNASKED) else tuple(t) for q, t in zip(asked, told, strict=True)]
 
     def smallest(self, question, was):
         """A question from which nothing more can be left out without the difference going away."""
@@ -80,7 +80,7 @@ def report(judge, log, asked, told, answers):
     """Prints equal/total for each verb and the shortest differences; how many there are."""
     equal, total, differ = collections.Counter(), collections.Counter(), []
     for q, (whose, want), have in zip(asked, told, answers):
-        row = (q.split(' ')[0], 'the Rust' if whose == 'rust' else 'document ' + whose)
+        row = (q.split(' ')[0], 'the Rust' if whose == 'rust' else 'the documents')
         total[row] += 1
         equal[row] += want == have
         if want != have:

@@ -283,11 +283,6 @@ def suffix(path):
 UNASKED = ('lent-', 'argument', 'entries')
 
 
-def document(question):
-    """The document that answers a question where the Rust does not."""
-    return '02' if question.startswith(('entries', 'lent-entries')) else '01'
-
-
 def shown(units):
     if not units:
         return '{}'

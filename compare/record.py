@@ -21,7 +21,7 @@ def main():
         whose, told = line.split(' ', 1)
         worked = 'bad' if q in bad else model.answer(q)
         if told != worked and q not in bad and not q.startswith(model.UNASKED):
-            sys.exit(f'the Rust and 01 differ: {q[:200]}\n  {told[:200]}\n  {worked[:200]}')
+            sys.exit(f'the Rust and the documents differ: {q[:200]}\n  {told[:200]}\n  {worked[:200]}')
         by_rust += whose == 'rust' and q not in bad
         answers.append(worked)
     open(f'{folder}/stdin', 'w').write('\n'.join(asked) + '\n')

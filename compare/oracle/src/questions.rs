@@ -1,4 +1,4 @@
-//! One question's answer by the Rust, and by the document where the Rust says nothing: its limits, and NUL in a program or script.
+//! One question's answer by the Rust, and by the documents where the Rust says nothing: their limits, and NUL in a program or script.
 use crate::args::{self, Arg};
 use crate::process;
 use crate::shims::{NUL, OsString, io};
@@ -45,7 +45,7 @@ pub fn units(text: &str) -> Option<Vec<u16>> {
 #[derive(PartialEq, Eq, Clone, Copy)]
 pub enum By {
     Rust,
-    Document,
+    Documents,
 }
 
 /// The place of the argument or entry at fault: the first one with which the Rust refuses.
@@ -60,7 +60,7 @@ fn refused(number: u32, place: usize) -> String {
 fn built(limit: usize, result: Result<Vec<u16>, (u32, usize)>) -> (By, String) {
     match result {
         Err((number, place)) => (By::Rust, refused(number, place)),
-        Ok(line) if line.len() > limit => (By::Document, refused(2, 0)),
+        Ok(line) if line.len() > limit => (By::Documents, refused(2, 0)),
         Ok(line) => (By::Rust, format!("ok {}", shown(&line))),
     }
 }
@@ -75,7 +75,7 @@ fn lines(verb: &str, words: &[&str]) -> Option<(By, String)> {
     let (force, name) = (*words.first()? == "1", units(words.get(1)?)?);
     let list: Vec<_> = words[2..].iter().map(|w| arg(w)).collect::<Option<_>>()?;
     if let Some(i) = list.iter().position(|(kind, _)| *kind > 1) {
-        return Some((By::Document, refused(1, i + 1)));
+        return Some((By::Documents, refused(1, i + 1)));
     }
     let args: Vec<Arg> = list
         .iter()
@@ -85,13 +85,13 @@ fn lines(verb: &str, words: &[&str]) -> Option<(By, String)> {
         if verb == "line" { process::line(&name, &args[..n], force) } else { args::batch(&name, &args[..n], force) }
     };
     let own = if verb == "line" { &name[..] } else { name.strip_suffix(&[0]).unwrap_or(&name) };
-    // A script's refusal comes first in the Rust too; behind it the document's own test for NUL.
+    // A script's refusal comes first in the Rust too; behind it the documents' own test for NUL.
     if let Err(e) = make(0) {
         assert!(e.text.starts_with("Windows file names"));
         return Some((By::Rust, refused(7, 0)));
     }
     if own.contains(&0) {
-        return Some((By::Document, refused(5, 0)));
+        return Some((By::Documents, refused(5, 0)));
     }
     let at = |n: usize| make(n).is_err();
     Some(built(LINE, make(args.len()).map_err(|e| (if e.text == NUL { 5 } else { 6 }, place(args.len(), at)))))
@@ -111,7 +111,7 @@ fn read(words: &[&str]) -> Option<(By, String)> {
     let (exe, line) = (units(exe)?, units(line)?);
     let n = line.iter().position(|&u| u == 0).unwrap_or(line.len());
     if n > LINE || n == 0 && exe.len() > LINE {
-        return Some((By::Document, refused(2, 0)));
+        return Some((By::Documents, refused(2, 0)));
     }
     let list = args::parse(&line, &exe);
     let mut text = format!("ok {}", list.len());
