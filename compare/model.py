@@ -4,7 +4,9 @@ Written from the documents alone, sentence by sentence, without a look at the cr
 says nothing: refusals 1 to 4, places, NUL in a program or script, lent memory, the entries of a block (02, E1).
 """
 
-READ, LINE, BLOCK = 32767, 32767, 65535
+# The most units of what is read (01), of a line that is built, ordinary or batch (02, E2), and of a block (01).
+READ, LINE, BLOCK = 32767, 32766, 65535
+BATCH = LINE
 QUOTE, BACKSLASH, SPACE, TAB, PERCENT, EQUALS, NUL = 34, 92, 32, 9, 37, 61, 0
 GOOD = [ord(c) for c in r'#$*+-./:?@\_']
 FRONT = [ord(c) for c in 'cmd.exe /e:ON /v:OFF /d /c "']
@@ -193,7 +195,7 @@ def batch_command_line(force, script, records, text, room):
     whole = FRONT + [QUOTE] + script + [QUOTE]
     for kind, t in args:
         whole += [SPACE] + (batch_form(t, force) if kind == 0 else t)
-    return limited(LINE, room, whole + [QUOTE])
+    return limited(BATCH, room, whole + [QUOTE])
 
 
 def environment_block(records, text, room):

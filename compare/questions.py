@@ -2,7 +2,7 @@
 import itertools
 import random
 
-from model import answer, environment_block, inner, shown, units
+from model import BATCH, BLOCK, LINE, READ, answer, environment_block, inner, shown, units
 
 SIX = [32, 9, 34, 92, 97, 98]
 # one unit of each class and of each end of a range that a rule names, surrogates paired and alone
@@ -46,24 +46,40 @@ def each_alone():
     return ['batch 0 a.bat 0:' + shown([u]) for u in range(260)]
 
 
+def around(limit):
+    """A limit one below, at and above."""
+    return limit - 1, limit, limit + 1
+
+
+def short_ones(n):
+    """Arguments of seven units that take n units with their spaces; the last has up to fourteen."""
+    return ' 0:aaaaaaa' * (n // 8) + 'a' * (n % 8)
+
+
 def limits():
-    """Every limit one below, at and above."""
+    """Every limit one below, at and above: a built line by its name, by one argument, plain, forced, raw or escaped, and by many short ones."""
     a = lambda n: shown([97] * n)
-    for n in (32766, 32767, 32768):
+    for n in around(READ):
         yield 'read exe ' + a(n)
         yield 'read exe ' + a(n) + '{0}' + a(2)
         yield 'read ' + a(n) + ' {}'
         yield 'read ' + a(n) + ' {0}x'
+    for n in around(LINE):
         yield 'line 0 ' + a(n - 2)
         yield 'line 0 p 0:' + a(n - 4)
         yield 'line 1 p 0:' + a(n - 6)
         yield 'line 0 p 1:' + a(n - 4)
         yield 'line 0 p 0:' + shown([34] * ((n - 5) // 2)) + ' 1:' + a((n - 5) % 2)
+        yield 'line 0 p' + short_ones(n - 3)
+    for n in around(BATCH):
         yield 'batch 0 ' + a(n - 31)
         yield 'batch 0 ' + a(n - 31) + '{0}'
         yield 'batch 0 s 0:' + a(n - 33)
+        yield 'batch 1 s 0:' + a(n - 35)
+        yield 'batch 0 s 1:' + a(n - 33)
         yield 'batch 0 s 0:' + shown([37] * ((n - 36) // 8)) + ' 1:' + a((n - 36) % 8)
-    for n in (65534, 65535, 65536):
+        yield 'batch 0 s' + short_ones(n - 32)
+    for n in around(BLOCK):
         yield 'env ' + a(n - 3) + ':{}'
         yield 'env {}:' + a(n - 3)
         yield 'env A:1 ' + a(n - 8) + ':x'
@@ -199,15 +215,17 @@ def lent_rooms():
 
 
 def lent_limits():
-    """Each limit of a built line and a block one below, at and above, by parts that overlap: with no room the line at the limit is refused by 4, the next one by 2."""
+    """Each limit of a built line and a block one below, at and above, by parts that overlap. Without room a line at the limit is refused by 4, the next one by
+    2; with room for the limit the first is built, and the next one is still refused by 2."""
     text = shown([97] * 1100)
-    for head, limit, around in (('lent-line 0 p', 32767, 3), ('lent-line 1 p', 32767, 3), ('lent-batch 0 s', 32767, 32)):
-        for total in (limit - 1, limit, limit + 1):
+    for head, limit, frame in (('lent-line 0 p', LINE, 3), ('lent-line 1 p', LINE, 3), ('lent-batch 0 s', BATCH, 32)):
+        for total in around(limit):
             each = 1 + 1000 + 2 * (head[-3] == '1')
-            count, rest = divmod(total - around, each)
-            last = f'1 7 {rest - 1}' if rest else ''
-            yield ' '.join([head, text, '{}'] + ['0 5 1000'] * count + [last]).strip()
-    for total in (65534, 65535, 65536):
+            count, rest = divmod(total - frame, each)
+            records = ['0 5 1000'] * count + [f'1 7 {rest - 1}'] * (rest > 0)
+            yield ' '.join([head, text, '{}'] + records)
+            yield ' '.join([head, text, '.' * limit] + records)
+    for total in around(BLOCK):
         count, rest = divmod(total - 1, 1002)
         yield ' '.join(['lent-env', text, '..'] + ['3 900 0 100'] * count + [f'0 {rest - 2} 9 0'] * (rest > 1))
 
@@ -264,7 +282,7 @@ def cut_blocks():
 
 def block_limits():
     """A block's limit one below, at and above: one long value, one long key without its final NUL, and no entry at all."""
-    for n in (65534, 65535, 65536):
+    for n in around(BLOCK):
         yield 'entries ' + shown([65, 61] + [98] * (n - 4) + [0, 0])
         yield 'entries ' + shown([97] * (n - 2) + [61, 0])
         yield 'entries ' + shown([98] * n)

@@ -20,8 +20,8 @@
  *
  * On Windows (found by running the library under Wine, and from C#)
  *     No terminating NUL is written, and CreateProcessW wants one: lend one unit less than there is, and store 0 at out[answer[2]].
- *     Of a line of ASLAPUSH_LINE_UNITS units and a NUL, CreateProcessW cut off the last unit in a trial. So lend at most ASLAPUSH_LINE_UNITS - 1 units for
- *     a line that goes there: that longest one is then refused by ASLAPUSH_ROOM.
+ *     CreateProcessW counts that NUL in its 32,767 units, so a line that is built stops one unit before, at ASLAPUSH_LINE_UNITS: of a line of one unit more
+ *     it cut off the last in a trial. An array of ASLAPUSH_LINE_UNITS + 1 units has room for every line and its NUL.
  *     An empty array, vector or span of C# or C++ may have a null pointer, which this interface does not take: lend the address of any element instead, with
  *     the number 0.
  *     Two lists of entries can give one block, as key `a` with value `b=c` and key `a=b` with value `c`: `=` in a key is written as it is. Read back,
@@ -55,7 +55,7 @@ enum { ASLAPUSH_REGULAR = 0, ASLAPUSH_RAW = 1 };
 /* Limits: the most units of each. What has more is refused by ASLAPUSH_LENGTH, however much is lent, so room for the limit is always enough. */
 enum {
     ASLAPUSH_READ_UNITS = 32767,                /* a line to be read up to its first NUL or its end, or where that is empty the executable name */
-    ASLAPUSH_LINE_UNITS = 32767,                /* an ordinary line that is built */
+    ASLAPUSH_LINE_UNITS = 32766,                /* an ordinary line that is built, without the NUL that CreateProcessW counts */
     ASLAPUSH_BATCH_UNITS = ASLAPUSH_LINE_UNITS, /* a batch line that is built */
     ASLAPUSH_BLOCK_UNITS = 65535                /* an environment block that is built, and what is lent to read one from */
 };

@@ -134,6 +134,11 @@ static void reading(void) {
     expect(aslapush_parse_lp_cmd_line(text, n, name, 0, out, n, spans, 2 * (n / 2 + 1), a) == 0 && told(0, 4, 3), "as many arguments as 6 units can have");
     ready();
     expect(aslapush_parse_lp_cmd_line(text, 0, text, 3, out, 3, spans, 2, a) == 0 && told(0, 1, 3) && same(out, 3, " a "), "the executable name");
+    n = repeated('a', ASLAPUSH_READ_UNITS + 1, dump);
+    ready();
+    expect(aslapush_parse_lp_cmd_line(dump, n - 1, name, 0, out, n, spans, 2, a) == 0 && told(0, 1, n - 1), "the longest line that is read");
+    ready();
+    expect(aslapush_parse_lp_cmd_line(dump, n, name, 0, out, n, spans, 2, a) == ASLAPUSH_LENGTH && told(0, 0, 0), "a line too long to be read");
 }
 
 static void lines(void) {
@@ -155,7 +160,8 @@ static void lines(void) {
     expect(line(p, quotes, 3, t, 1, p + 2 + 2 * 4 + 2) == ASLAPUSH_ROOM && told(0, 0, 0), "a unit of room less");
     p = repeated('a', ASLAPUSH_LINE_UNITS - 2, name);
     expect(line(p, records, 0, 0, 0, ASLAPUSH_LINE_UNITS) == 0 && told(0, 0, ASLAPUSH_LINE_UNITS), "the longest line");
-    expect(line(p, records, 0, 0, 0, ASLAPUSH_LINE_UNITS - 1) == ASLAPUSH_ROOM && told(0, 0, 0), "the longest line, for CreateProcessW");
+    expect(a[2] + 1 == 32767, "the longest line and its NUL are what CreateProcessW takes");
+    expect(line(p, records, 0, 0, 0, ASLAPUSH_LINE_UNITS - 1) == ASLAPUSH_ROOM && told(0, 0, 0), "a unit of room less for the longest line");
     p = repeated('a', ASLAPUSH_LINE_UNITS - 1, name);
     expect(line(p, records, 0, 0, 0, ASLAPUSH_BLOCK_UNITS) == ASLAPUSH_LENGTH && told(0, 0, 0), "a line too long");
 }

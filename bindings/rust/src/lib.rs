@@ -24,8 +24,8 @@ pub use refusal::Refusal;
 
 /// The most units of a line that is read, and of an executable name that stands for an empty one.
 pub const READ_UNITS: usize = 32_767;
-/// The most units of an ordinary line that is built. One that goes to CreateProcessW should have fewer: include/aslapush.h says why.
-pub const LINE_UNITS: usize = 32_767;
+/// The most units of an ordinary line that is built. With the NUL that CreateProcessW counts, these are the 32,767 that it takes.
+pub const LINE_UNITS: usize = 32_766;
 /// The most units of a batch line that is built.
 pub const BATCH_UNITS: usize = LINE_UNITS;
 /// The most units of a block that is built, and of a slice that a block is read from.

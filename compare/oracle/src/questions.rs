@@ -4,8 +4,9 @@ use crate::process;
 use crate::shims::{NUL, OsString, io};
 use std::fmt::Write;
 
-/// The most units of a line that is read or built, and of a block.
-const LINE: usize = 32_767;
+/// The most units of what is read (01), of a line that is built, ordinary or batch (02, E2), and of a block (01).
+const READ: usize = 32_767;
+const LINE: usize = 32_766;
 const BLOCK: usize = 65_535;
 
 /// Units in the one form of a text.
@@ -110,7 +111,7 @@ fn read(words: &[&str]) -> Option<(By, String)> {
     let [exe, line] = words else { return None };
     let (exe, line) = (units(exe)?, units(line)?);
     let n = line.iter().position(|&u| u == 0).unwrap_or(line.len());
-    if n > LINE || n == 0 && exe.len() > LINE {
+    if n > READ || n == 0 && exe.len() > READ {
         return Some((By::Documents, refused(2, 0)));
     }
     let list = args::parse(&line, &exe);

@@ -3,10 +3,10 @@ ghost use mathlib.Core.Path.{_≡_};
 ghost use Rattle.adding.specs.Limits.{limitOf, counted};
 
 // The most units of an ordinary line that is built.
-const LINE_LIMIT: usize = 32767;
+const LINE_LIMIT: usize = 32766;
 
 // The most units of a batch line that is built.
-const BATCH_LIMIT: usize = 32767;
+const BATCH_LIMIT: usize = LINE_LIMIT;
 
 // A count stops here. What reaches it is past the limit of every line, and no sum over many records wraps.
 pub const COUNT_CAP: usize = 65536;

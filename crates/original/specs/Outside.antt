@@ -1,6 +1,6 @@
 -- Why each hypothesis of the theorems is there: a smallest input outside it, where the two sides of the theorem part. Assumes nothing.
 -- Smallest is by the number of records, then of lent units, then of lent room and places.
-use Prim.Native.Nat.{ℕ, _-_}
+use Prim.Native.Nat.{ℕ, _+_, _-_}
 use mathlib.Core.Path.{_≡_, refl}
 use mathlib.Core.Bool.{true, false}
 use mathlib.Core.List.{List, [], _∷_, _++_}
@@ -11,7 +11,7 @@ use Rattle.rules.specs.Choice.{pick, any}
 use Rattle.rules.specs.Unit.{units, within, nul, carriageReturn, quote, equals}
 use Rattle.rules.specs.Record.{regular, argumentsOf, entriesOf}
 use Rattle.rules.specs.Batch.{batchForm}
-use Rattle.rules.specs.Building.{nulFinding, batchFront, commandLine, batchCommandLine}
+use Rattle.rules.specs.Building.{lineLimit, nulFinding, batchLimit, batchFront, commandLine, batchCommandLine}
 use Rattle.rules.specs.Block.{environmentBlock}
 use Rattle.rules.specs.Reading.{reading}
 use Rattle.rules.specs.Status.{signedCode, statusOutcome}
@@ -37,7 +37,7 @@ pub in-and-out :
     in-domain (commandLine false [] [] [] 2)
     ∷ in-domain (commandLine false [] (0 ∷ 0 ∷ 1 ∷ []) (nul ∷ []) 0)
     ∷ in-domain (commandLine false [] (0 ∷ []) [] 2)
-    ∷ in-domain (commandLine false (replicate 32766 97) [] [] 32768)
+    ∷ in-domain (commandLine false (replicate lineLimit 97) [] [] (lineLimit + 2))
     ∷ in-domain (commandLine false [] [] [] 1)
     ∷ in-domain (batchCommandLine false [] [] [] 31)
     ∷ in-domain (batchCommandLine false (quote ∷ []) [] [] 0)
@@ -46,7 +46,7 @@ pub in-and-out :
     ∷ in-domain (reading [] [] 0 1)
     ∷ []
     ≡ true ∷ true ∷ false ∷ false ∷ false ∷ true ∷ true ∷ true ∷ true ∷ false ∷ []
-unfolding commandLine batchCommandLine reading
+unfolding lineLimit commandLine batchCommandLine reading
 in-and-out = refl
 
 -- ---- `make_command_line`
@@ -66,9 +66,10 @@ pub line-record-cut : line-sides [] (0 ∷ []) [] 2 ≡ (gives (quote ∷ quote 
 unfolding make-command-line commandLine
 line-record-cut = refl
 
--- 2: a line of 32,768 units
-pub line-too-long : line-sides (replicate 32766 97) [] [] 0 ≡ (gives (quote ∷ replicate 32766 97 ++ quote ∷ []), refuses 2)
-unfolding make-command-line commandLine
+-- 2: a line of one unit past the limit, two of them its quotes
+pub line-too-long :
+    line-sides (replicate (lineLimit - 1) 97) [] [] 0 ≡ (gives (quote ∷ replicate (lineLimit - 1) 97 ++ quote ∷ []), refuses 2)
+unfolding lineLimit make-command-line commandLine
 line-too-long = refl
 
 -- 4: no room
@@ -97,9 +98,10 @@ pub batch-record-cut : batch-sides [] (0 ∷ []) [] 31 ≡ (gives (only-script [
 unfolding make-bat-command-line batchCommandLine
 batch-record-cut = refl
 
--- 2: a batch line of 32,768 units
-pub batch-too-long : batch-sides (replicate 32737 97) [] [] 0 ≡ (gives (only-script (replicate 32737 97)), refuses 2)
-unfolding make-bat-command-line batchCommandLine
+-- 2: a batch line of one unit past the limit, 31 of them round the script
+pub batch-too-long :
+    batch-sides (replicate (batchLimit - 30) 97) [] [] 0 ≡ (gives (only-script (replicate (batchLimit - 30) 97)), refuses 2)
+unfolding batchLimit make-bat-command-line batchCommandLine
 batch-too-long = refl
 
 -- 4: no room

@@ -9,9 +9,10 @@ use Rattle.rules.specs.Record.{Argument, isRegular, argumentFault, argum
 use Rattle.rules.specs.Quoting.{form, enclosed}
 use Rattle.rules.specs.Batch.{batchForm, endsInBackslash}
 
--- the most units of a line that is built: "a line to be built has more than 32,767 units"
+-- the most units of a line that is built: "Built lines, ordinary and batch, now stop at 32,766; 32,767 is refusal 2." (02, E2)
+-- "The public text of CreateProcessW counts the terminating NUL in its 32,767, and our lines carry none."
 unfoldable pub lineLimit : ℕ
-lineLimit = 32767
+lineLimit = 32766
 
 -- an argument as it is written: "Raw: the units unchanged", a regular one by its rule, which is told whether quotes are forced
 abbrev pub written : (Bool → List ℕ → List ℕ) → Bool → Argument → List ℕ

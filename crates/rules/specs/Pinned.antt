@@ -27,7 +27,7 @@ abbrev reads : String → List String → Example
 reads line args = sequences (arguments (units line)) gives sequences (map units args)
 
 -- an executable name and lent units are read, with this much room and so many numbers in the table
-abbrev pub comes : List ℕ → List ℕ → ℕ → ℕ → Outcome (List (List ℕ)) → Example
+abbrev comes : List ℕ → List ℕ → ℕ → ℕ → Outcome (List (List ℕ)) → Example
 comes executable lent room table o = read (reading executable lent room table) gives read o
 
 -- the executable name as it is: blanks, a quote and a NUL with it
@@ -77,7 +77,7 @@ readings =
 -- ---- ordinary lines
 
 -- a program, records and their text come to this, with this much room and quotes not forced
-abbrev pub builds : List ℕ → List ℕ → List ℕ → ℕ → Outcome (List ℕ) → Example
+abbrev builds : List ℕ → List ℕ → List ℕ → ℕ → Outcome (List ℕ) → Example
 builds program records text room o = written (commandLine false program records text room) gives written o
 
 -- an ordinary form, quotes not forced
@@ -116,7 +116,7 @@ buildings =
 -- ---- batch lines
 
 -- a script, records and their text come to this, with this much room and quotes not forced
-abbrev pub scripts : List ℕ → List ℕ → List ℕ → ℕ → Outcome (List ℕ) → Example
+abbrev scripts : List ℕ → List ℕ → List ℕ → ℕ → Outcome (List ℕ) → Example
 scripts script records text room o = written (batchCommandLine false script records text room) gives written o
 
 -- behind the 28 units of the front
@@ -163,7 +163,7 @@ batches =
 -- ---- blocks, statuses, suffixes, classes
 
 -- records and their text come to this block, with this much room
-abbrev pub blocks : List ℕ → List ℕ → ℕ → Outcome (List ℕ) → Example
+abbrev blocks : List ℕ → List ℕ → ℕ → Outcome (List ℕ) → Example
 blocks records text room o = written (environmentBlock records text room) gives written o
 
 -- blocks: no entries, cut records, 1 over all before 5, key before value, `=` in a key
@@ -189,7 +189,7 @@ abbrev entry : String → String → Entry
 entry key value = record { key = units key; value = units value }
 
 -- a slice, with so many numbers in the table, is read as this
-abbrev pub lists : List ℕ → ℕ → Outcome (List Entry) → Example
+abbrev lists : List ℕ → ℕ → Outcome (List Entry) → Example
 lists lent table o = listed (blockReading lent table) gives listed o
 
 -- `A=b`, `C=d`, each with its NUL
