@@ -156,11 +156,28 @@ fn a_block_of_the_limit_is_read_and_no_unit_more() {
     assert_eq!(EnvironmentBlock::read(&vec![97; BLOCK_UNITS + 1]).unwrap_err(), Refusal::Length, "2 is tested first");
 }
 
+/// The number that the header gives a name; where it gives it another name, that one's.
+fn in_header(name: &str) -> usize {
+    let value = |row: &str| Some(row.trim().strip_prefix(name)?.strip_prefix(" = ")?.split([',', ' ']).next()?.to_string());
+    let value = include_str!("../../../include/aslapush.h").lines().find_map(value).unwrap();
+    value.parse().unwrap_or_else(|_| in_header(&value))
+}
+
+#[test]
+fn limits_are_those_of_the_header_and_of_the_table() {
+    let names = ["ASLAPUSH_READ_UNITS", "ASLAPUSH_LINE_UNITS", "ASLAPUSH_BATCH_UNITS", "ASLAPUSH_BLOCK_UNITS"];
+    assert_eq!(names.map(in_header), [READ_UNITS, LINE_UNITS, BATCH_UNITS, BLOCK_UNITS]);
+    let row = include_str!("../../../README.md").lines().find(|row| row.starts_with("| 2 |")).unwrap();
+    let said: Vec<usize> = row.split(' ').filter(|word| word.contains(',')).filter_map(|word| word.replace(',', "").parse().ok()).collect();
+    assert_eq!(said, [READ_UNITS, LINE_UNITS, BLOCK_UNITS]);
+}
+
 #[test]
 fn limits_are_met_and_no_unit_more() {
     let line = |n: usize| CommandLine::new(&vec![97; n - 2]).build();
     assert_eq!(line(LINE_UNITS).unwrap().len(), LINE_UNITS);
     assert_eq!(line(LINE_UNITS + 1), Err(Refusal::Length));
+    assert_eq!(parse(&line(LINE_UNITS).unwrap(), &[]).unwrap(), [vec![97; LINE_UNITS - 2]], "the longest line is read back");
     let batch = |n: usize| CommandLine::new(&vec![97; n - 31]).build_batch();
     assert_eq!(batch(BATCH_UNITS).unwrap().len(), BATCH_UNITS);
     assert_eq!(batch(BATCH_UNITS + 1), Err(Refusal::Length));
