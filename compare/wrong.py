@@ -1,5 +1,5 @@
-"""Seven wrong variants: six of reader and writer, document 01's "Errors easily made", and one of the block reader. How many of the recorded answers of
-`answer` catch each.
+"""Eight wrong variants: six of reader and writer, document 01's "Errors easily made", one of the limit of built lines, and one of the block reader. How many of
+the recorded answers of `answer` catch each.
 
 usage: wrong.py        (from any folder)
 
@@ -30,6 +30,8 @@ VARIANTS = [
      [('    if breaks {\n', '    if nul {\n        return Progress::Stopped(Refusal::Nul(place));\n    }\n    if breaks {\n')]),
     ('units written before a later argument is refused', 'building/src/turns.rt',
      [('            let judged =', '            let early = writing::add_argument(classes, out, units, text, arg, style);\n            let judged =')]),
+    ('a line built of one unit more than its limit', 'adding/src/limits.rt',
+     [('if batch { BATCH_LIMIT } else { LINE_LIMIT }', 'if batch { BATCH_LIMIT + 1 } else { LINE_LIMIT + 1 }')]),
     ('an entry of a block split at its first unit', 'entries/src/marks.rt', [('let second = 1;', 'let second = 0;')]),
 ]
 
@@ -75,7 +77,7 @@ def main():
         answers = ran.stdout.split('\n')[:-1]
         answers += ['none'] * (len(asked) - len(answers))
         caught = sorted((len(q), q) for q, want, have in zip(asked, recorded, answers) if want != have)
-        print(f'{what}: {len(caught)} of {len(asked)} answers differ' + (f', the shortest on: {caught[0][1]}' if caught else ''))
+        print(f'{what}: {len(caught)} of {len(asked)} answers differ' + (f', the shortest on: {caught[0][1][:80]}' if caught else ''))
         if bool(caught) != bool(changes):
             status = 1
     sys.exit(status)
