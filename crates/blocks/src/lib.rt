@@ -9,6 +9,9 @@ mod entry_records;
 mod judging;
 mod writing;
 
+// The most units of a block that is built.
+pub const BLOCK_LIMIT: usize = 65535;
+
 // Writes the environment block (Rust: `make_envp`). A refusal is decided before anything is stored.
 pub fn make_envp(records: &[u32], text: &[u16], out: &mut [u16]) -> Filled
     ensures { λ r. ⌜ Answered (environmentBlock (now (records .entry)) (now (text .entry)) (length (now (out .entry)))) (filledSaid r) (now (out .entry)) (now (out .exit)) ⌝ }
@@ -22,7 +25,7 @@ pub fn make_envp(records: &[u32], text: &[u16], out: &mut [u16]) -> Filled
         return Filled::Refused(Refusal::Nul(with_nul));
     }
     let units = writing::block_len(records, text);
-    if writing::BLOCK_LIMIT < units {
+    if BLOCK_LIMIT < units {
         return Filled::Refused(Refusal::Length);
     }
     if out.len() < units {

@@ -5,14 +5,12 @@ ghost use lib.ListN.{length};
 ghost use Rattle.rules.specs.Record.{entriesOf, entryOf};
 ghost use Rattle.rules.specs.Block.{blockLimit};
 ghost use Rattle.blocks.specs.Entries.{ruled, oneEntry, Written, untilPast, blockUntilPast};
+use crate::BLOCK_LIMIT;
 use crate::entry_records;
 use crate::entry_records::EntryRecord;
 use stores::copy_run;
 use stores::put;
 use units::parts;
-
-// The most units of a block.
-pub const BLOCK_LIMIT: usize = 65535;
 
 // Key, `=`, value, NUL from a place on, as far as the output has places. Answers the place behind.
 fn put_entry(out: &mut [u16], at: usize, text: &[u16], entry: EntryRecord) -> usize

@@ -1,4 +1,5 @@
 // The commands that build no line, one function each.
+use blocks::BLOCK_LIMIT;
 use blocks::make_envp;
 use console::messages::block_refused;
 use console::messages::status_refused;
@@ -38,7 +39,7 @@ fn env_block(text: &[u16], records: &[u32]) {
         Filled::Units(units) => {
             say_written(b"block", units, &out);
         }
-        Filled::Refused(refusal) => block_refused(refusal),
+        Filled::Refused(refusal) => block_refused(refusal, BLOCK_LIMIT),
     }
 }
 

@@ -13,8 +13,8 @@ use walking::walk;
 mod marks;
 mod walking;
 
-// The most units of a block.
-const BLOCK_LIMIT: usize = 65535;
+// The most units of a slice that a block is read from.
+pub const BLOCK_LIMIT: usize = 65535;
 
 // Judges and counts the entries.
 fn measure(block: &[u16]) -> Tally

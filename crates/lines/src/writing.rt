@@ -1,6 +1,7 @@
 // The commands that build a line.
 ghost use Prim.Native.Nat.{_≤_};
 ghost use lib.ListN.{length};
+use adding::limits::limit_of;
 use building::lines::build;
 use console::reports::say;
 use console::room;
@@ -16,7 +17,7 @@ fn say_line(batch: bool, text: &[u16], units: usize, records: &[u32], force: boo
     let name = &text[..units];
     let mut out = room::out();
     let built = build(batch, name, records, text, force, &mut out);
-    let n = say_built(built, &out);
+    let n = say_built(built, &out, limit_of(batch));
     if batch | (n == 0) {
         return;
     }

@@ -10,6 +10,7 @@ use console::reports::say_number;
 use console::room;
 use dumps::read_word;
 use dumps::units_of;
+use entries::BLOCK_LIMIT;
 use entries::read_envp;
 use rules::Listed;
 use scans::find_nul;
@@ -90,7 +91,7 @@ fn list(block: &[u16]) {
             say_used(block, count, units);
         }
         Listed::Refused(refusal) => {
-            block_unread(refusal);
+            block_unread(refusal, BLOCK_LIMIT);
             let place = place_of(refusal);
             if place != 0 {
                 say_fault(block, place);

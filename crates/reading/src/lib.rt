@@ -17,7 +17,7 @@ use rules::Refusal;
 use scans::find_nul;
 
 // The most units of a line that is read.
-const READ_LIMIT: usize = 32767;
+pub const READ_LIMIT: usize = 32767;
 
 // How many units the limit counts: those of the line or, where it is empty, of the executable name.
 fn units_read(line: usize, exe_name: usize) -> usize

@@ -4,6 +4,7 @@ use console::reports::say;
 use console::reports::say_argument;
 use console::reports::say_number;
 use console::room;
+use reading::READ_LIMIT;
 use reading::argument;
 use reading::parse_lp_cmd_line;
 use rules::Parsed;
@@ -67,7 +68,7 @@ pub fn say_read(line: &[u16], name: &[u16]) {
     let mut spans = room::spans();
     match parse_lp_cmd_line(line, name, &mut back, &mut spans) {
         Parsed::Arguments { count, units: _ } => say_arguments(&back, &spans, count),
-        Parsed::Refused(refusal) => line_unread(refusal),
+        Parsed::Refused(refusal) => line_unread(refusal, READ_LIMIT),
     }
 }
 
@@ -101,7 +102,7 @@ pub fn read_back(line: &[u16], program: &[u16], table: &[u32], text: &[u16]) {
             &back,
             &spans,
         ),
-        Parsed::Refused(refusal) => line_unread(refusal),
+        Parsed::Refused(refusal) => line_unread(refusal, READ_LIMIT),
     }
 }
 

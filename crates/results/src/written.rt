@@ -19,14 +19,14 @@ pub fn say_written(what: &[u8], units: usize, out: &[u16]) -> usize
     units
 }
 
-// A line that was built, or why it was not. The answer is how many units it has, 0 where it is refused.
-pub fn say_built(built: Built, out: &[u16]) -> usize
+// A line that was built, or why it was not, by its limit. The answer is how many units it has, 0 where it is refused.
+pub fn say_built(built: Built, out: &[u16], limit: usize) -> usize
     ensures { λ r. ⌜ r ≤ length (now (out .entry)) ⌝ }
 {
     match built {
         Built::Line { units } => say_written(b"line", units, out),
         Built::Refused(refusal) => {
-            line_refused(refusal);
+            line_refused(refusal, limit);
             0
         }
     }

@@ -20,6 +20,9 @@ build-requires c κs = search needs
 slice-aggregate-say-built : tie.Need-slice-aggregate-say-built
 slice-aggregate-say-built c = search needs
 
+limit-of-requires : tie.Need-limit-of-requires
+limit-of-requires c κs = search needs
+
 say-built-requires : tie.Need-say-built-requires
 say-built-requires c κs = search needs
 
@@ -53,6 +56,7 @@ say-line-spec =
     slice-aggregate-build
     build-requires
     slice-aggregate-say-built
+    limit-of-requires
     say-built-requires
     returns
     slice-aggregate-say
