@@ -69,7 +69,7 @@ by-name build n = behind-fifteen build (many (n - 30015)) []
 abbrev pub by-one : ℕ → Way
 by-one kind build n = behind-fifteen build [] (kind ∷ 0 ∷ (n - 30016) ∷ [])
 
--- they are those of 1,000 arguments of one unit each, and their spaces
+-- they are those of 1,000 arguments of one unit each, and their spaces; the name fills up what these leave
 abbrev pub by-short : Way
 unfolding flatOf
 by-short build n = behind-fifteen build (many (n - 32015)) (flatOf (replicate 1000 (record { kind = regular; start = 0; len = 1 })))
