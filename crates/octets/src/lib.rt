@@ -5,7 +5,7 @@ ghost use lib.Dec.{eqb};
 ghost use lib.ListN.{length, set};
 ghost use lib.Seq.{sets};
 ghost use Rattle.laws.specs.Scan.{before};
-ghost use Rattle.laws.specs.Equal.{equal};
+ghost use Rattle.rules.specs.Choice.{equal};
 ghost use Rattle.laws.specs.Placed.{Placed};
 
 pub mod digits;

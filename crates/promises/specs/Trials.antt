@@ -11,6 +11,7 @@ use Rattle.rules.specs.declared.Filled.the-variants as Filled
 use Rattle.rules.specs.declared.Parsed.the-variants as Parsed
 use Rattle.rules.specs.declared.Listed.the-variants as Listed
 use Rattle.rules.specs.Unit.{units, nul}
+use Rattle.rules.specs.Choice.{equal}
 use Rattle.rules.specs.Outcome.{Outcome, done, refused, over, filled}
 use Rattle.rules.specs.Building.{line, commandLine, scriptOf, batchLine, batchCommandLine}
 use Rattle.rules.specs.Block.{entryUnits, block, environmentBlock}
@@ -18,7 +19,7 @@ use Rattle.rules.specs.Reading.{argumentsRead, reading, argumentPart}
 use Rattle.rules.specs.BlockReading.{entriesRead, blockReading}
 use Rattle.rules.specs.Answer.{Said, refusal, unitsSaid, argumentsSaid, entriesSaid}
 use Rattle.laws.specs.Answer.{Telling, built-one, filled-one, answered-once, read-once, listed-once}
-use Rattle.laws.specs.Equal.{equal, not-one}
+use Rattle.laws.specs.Equal.{not-one}
 use Rattle.promises.specs.Line.{line-numbered, line-whole}
 use Rattle.promises.specs.BatchLine.{batch-numbered, batch-whole}
 use Rattle.promises.specs.Block.{block-numbered, block-whole}

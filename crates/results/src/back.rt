@@ -1,4 +1,5 @@
 // Arguments as they are read from a line, and whether they are those that were given.
+use comparing::same_units;
 use console::messages::line_unread;
 use console::reports::say;
 use console::reports::say_argument;
@@ -9,7 +10,6 @@ use reading::argument;
 use reading::parse_lp_cmd_line;
 use rules::Parsed;
 use scans::has_quote;
-use units::comparing::same_units;
 
 // Each argument on a line of its own.
 fn say_arguments(back: &[u16], spans: &[u32], count: usize) {

@@ -1,6 +1,8 @@
 -- Tests, and what hangs on them. Assumes nothing.
+use Prim.Native.Nat.{ℕ}
 use mathlib.Core.Bool.{Bool, true, false}
 use mathlib.Core.List.{List, [], _∷_}
+use lib.Dec.{eqb}
 
 -- the first where the test holds, else the second
 abbrev pub pick {ℓ} : {A : Type ℓ} → Bool → A → A → A
@@ -31,3 +33,10 @@ any test (x ∷ xs) = either (test x) (any test xs)
 abbrev pub isEmpty {ℓ} : {A : Type ℓ} → List A → Bool
 isEmpty [] = true
 isEmpty (x ∷ xs) = false
+
+-- two lists are the same, element by element
+unfoldable pub equal : List ℕ → List ℕ → Bool
+equal [] [] = true
+equal [] (y ∷ ys) = false
+equal (x ∷ xs) [] = false
+equal (x ∷ xs) (y ∷ ys) = both (eqb x y) (equal xs ys)

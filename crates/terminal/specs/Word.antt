@@ -8,10 +8,9 @@ use lib.Dec.{leb}
 use lib.ListN.{length}
 use lib.Seq.{sets}
 use borrow.Author.Tests.{leb-true}
-use Rattle.rules.specs.Choice.{pick, both}
+use Rattle.rules.specs.Choice.{pick, both, equal}
 use Rattle.rules.specs.Unit.{units, isEquals}
 use Rattle.laws.specs.Scan.{before}
-use Rattle.laws.specs.Equal.{equal}
 use Rattle.terminal.specs.Number.{largest}
 use Rattle.terminal.specs.declared.words.Command.{Command}
 use Rattle.terminal.specs.declared.words.Command.the-variants as Command

@@ -11,11 +11,10 @@ use lib.Dec.{eqb, leb, ltb}
 use lib.ListN.{length, getD, take, drop, length-drop, length-take, drop-of-length-le}
 use lib.Seq.{drop-cons, drop-drop}
 use borrow.Author.Tests.{le-leb, lt-leb, lt-ltb, le-ltb}
-use Rattle.rules.specs.Choice.{pick, flip}
+use Rattle.rules.specs.Choice.{pick, flip, equal}
 use Rattle.rules.specs.Record.{part}
 use Rattle.laws.specs.Store.{part-is}
 use Rattle.laws.specs.Scan.{leading, before, leading-in}
-use Rattle.laws.specs.Equal.{equal}
 use Rattle.forms.specs.Text.{ill}
 use Rattle.words.specs.Word.{onto, wordsOf, wordsAt}
 use Rattle.fields.specs.Field.{heldIn, Grew}

@@ -4,9 +4,8 @@ use mathlib.Core.Path.{_≡_}
 use mathlib.Core.List.{List, [], _∷_}
 use lib.Dec.{ltb}
 use lib.ListN.{length, getD}
-use Rattle.rules.specs.Choice.{pick}
+use Rattle.rules.specs.Choice.{pick, equal}
 use Rattle.rules.specs.Record.{part}
-use Rattle.laws.specs.Equal.{equal}
 use Rattle.forms.specs.Text.{Taken, taken, ill}
 use Rattle.words.specs.Word.{wordsOf, wordsAt}
 use Rattle.fields.specs.Field.{Flat, follow, heldIn, holdingSaid}

@@ -1,6 +1,6 @@
 // The rows of a table: each is a verb, a space, a letter for each word behind it, and spaces to its end. The last letter stands for all further words.
 ghost use mathlib.Core.Path.{_≡_};
-ghost use Rattle.laws.specs.Equal.{equal};
+ghost use Rattle.rules.specs.Choice.{equal};
 ghost use Rattle.words.specs.Line.{verbIn, lettersIn, rowOf};
 use crate::lines::word_end;
 use octets::find;
