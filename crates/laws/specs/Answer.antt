@@ -14,10 +14,14 @@ use Rattle.rules.specs.declared.Parsed.{Parsed}
 use Rattle.rules.specs.declared.Parsed.the-variants as Parsed
 use Rattle.rules.specs.declared.Listed.{Listed}
 use Rattle.rules.specs.declared.Listed.the-variants as Listed
+use Rattle.rules.specs.declared.Cached.{Cached}
+use Rattle.rules.specs.declared.Cached.the-variants as Cached
 use Rattle.rules.specs.Choice.{pick}
-use Rattle.rules.specs.Outcome.{Outcome}
+use Rattle.rules.specs.Outcome.{Outcome, done, refused}
 use Rattle.rules.specs.Record.{Entry}
 use Rattle.rules.specs.Answer.{Said, refusalNumber, refusalPlace, refusalSaid, builtSaid, filledSaid, parsedSaid, listedSaid, Answered, Read, Listing}
+use Rattle.rules.specs.Cache.{Served, missed, hit, held, stored}
+use Rattle.rules.specs.Store.{cachedSaid}
 
 -- ---- back from what is said to the answer
 
@@ -149,3 +153,26 @@ OneListing o spans = (r r′ : Listed) (spans′ spans″ : List ℕ) → Listin
 -- the block reader's contract allows one, whatever the outcome
 pub listed-once : (o : Outcome (List Entry)) (spans : List ℕ) → OneListing o spans
 listed-once o spans r r′ spans′ spans″ a b = (listed-one r r′ (a .says ∙ sym (b .says)), a .tabulates ∙ sym (b .tabulates))
+
+-- ---- the launch line cache
+
+-- the answer of a call of the cache that says so
+cachedOf : Outcome Served → Cached
+unfolding refusalOf
+cachedOf (done missed) = Cached.Missed
+cachedOf (done (hit start size)) = Cached.Hit start size
+cachedOf (done (held start size)) = Cached.Held start size
+cachedOf (done (stored start size)) = Cached.Stored start size
+cachedOf (refused number place) = Cached.Refused (refusalOf number place)
+
+cached-back : (r : Cached) → cachedOf (cachedSaid r) ≡ r
+unfolding cachedOf
+cached-back Cached.Missed = refl
+cached-back (Cached.Hit start size) = refl
+cached-back (Cached.Held start size) = refl
+cached-back (Cached.Stored start size) = refl
+cached-back (Cached.Refused r) = ap Cached.Refused (refusal-back r)
+
+-- answers of the cache that say the same are one
+pub cached-one : (r r′ : Cached) → cachedSaid r ≡ cachedSaid r′ → r ≡ r′
+cached-one r r′ e = sym (cached-back r) ∙ ap cachedOf e ∙ cached-back r′

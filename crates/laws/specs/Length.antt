@@ -9,6 +9,8 @@ use Rattle.rules.specs.Choice.{pick}
 use Rattle.rules.specs.Unit.{units, isPercent}
 use Rattle.rules.specs.Quoting.{slashes, escaped, needsQuotes, enclosed, form}
 use Rattle.rules.specs.Batch.{batchEscaped, needsBatchQuotes, batchForm}
+use Rattle.rules.specs.Record.{Argument, isRegular}
+use Rattle.rules.specs.Building.{written}
 use Rattle.rules.specs.Status.{glyph, digits}
 use Rattle.laws.specs.Choice.{choose}
 use Rattle.laws.specs.Kind.{Kind, slash, marked, other, kind}
@@ -38,6 +40,22 @@ pub escaped-length : (q : Bool) (xs : List ℕ) (k : ℕ) → length (escaped q 
 unfolding escaped
 escaped-length q [] = λ k. omega (arith, end-length q k)
 escaped-length q (x ∷ xs) = step q xs (kind x) (escaped-length q xs)
+
+-- escaped behind any backslashes, the units are not fewer
+abbrev Longer : Bool → List ℕ → Type 0
+Longer q xs = (k : ℕ) → k + length xs ≤ length (escaped q k xs)
+
+longer-step : (q : Bool) {x : ℕ} (xs : List ℕ) → Kind x → Longer q xs → Longer q (x ∷ xs)
+unfolding escaped
+longer-step q xs slash ih k = omega (arith, ih (k + 1))
+longer-step q xs marked ih k = simp lengths (omega (arith, ih 0))
+longer-step q xs (other p r) ih k = simp (p, r, lengths) (omega (arith, ih 0))
+
+longer : (q : Bool) (xs : List ℕ) → Longer q xs
+unfolding escaped
+longer true [] = λ k. rw length-replicate (omega arith)
+longer false [] = λ k. rw length-replicate (omega arith)
+longer q (x ∷ xs) = longer-step q xs (kind x) (longer q xs)
 
 -- ---- an argument of a batch line
 
@@ -71,6 +89,19 @@ form-length force xs =
     choose (λ r. length r ≤ 2 * length xs + 2) (needsQuotes force xs) {x = enclosed (escaped true 0 xs)} {y = escaped false 0 xs}
     (simp length-append (omega (arith, escaped-length true xs 0)))
     (omega (arith, escaped-length false xs 0))
+
+-- and at least n
+form-longer : (force : Bool) (xs : List ℕ) → length xs ≤ length (form force xs)
+unfolding form
+form-longer force xs =
+    choose (λ r. length xs ≤ length r) (needsQuotes force xs) {x = enclosed (escaped true 0 xs)} {y = escaped false 0 xs}
+    (rw length-append (omega (arith, longer true xs 0)))
+    (omega (arith, longer false xs 0))
+
+-- so does one that is raw
+pub written-longer : (force : Bool) (a : Argument) → length (a .content) ≤ length (written form force a)
+written-longer force a =
+    choose (λ r. length (a .content) ≤ length r) (isRegular (a .kind)) {x = form force (a .content)} {y = a .content} (form-longer force (a .content)) (omega arith)
 
 -- in a batch line at most 8n + 2
 pub batch-form-length : (force : Bool) (xs : List ℕ) → length (batchForm force xs) ≤ 8 * length xs + 2

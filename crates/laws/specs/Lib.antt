@@ -31,3 +31,7 @@ pub mod Parts
 pub mod Records
 pub mod Run
 pub mod Last
+pub mod Keys
+pub mod Prepared
+pub mod Entries
+pub mod Standing

@@ -89,13 +89,17 @@ wider n p bs ps bs′ ps′ f g = go (eqb p 0)
 placed-given : (n i : ℕ) (bs ps : List ℕ) → given bs ps n (i + 1) ≡ any (eqb n) ps
 placed-given n i bs ps = let e : eqb (i + 1) 0 ≡ false = ne-eqb (i + 1) 0 (omega arith) in rw e
 
--- 0 is no number that is given
-pub unnumbered : (bs ps : List ℕ) (place : ℕ) → any (eqb 0) bs ≡ false → any (eqb 0) ps ≡ false → ¬ (given bs ps 0 place ≡ true)
-unnumbered bs ps place h g = go (eqb place 0)
+-- a number that is in neither list is not given
+pub ungiven : (number : ℕ) (bs ps : List ℕ) (place : ℕ) → any (eqb number) bs ≡ false → any (eqb number) ps ≡ false → ¬ (given bs ps number place ≡ true)
+ungiven number bs ps place h g = go (eqb place 0)
   where
-    go : (z : Bool) → ¬ (pick z (any (eqb 0) bs) (any (eqb 0) ps) ≡ true)
+    go : (z : Bool) → ¬ (pick z (any (eqb number) bs) (any (eqb number) ps) ≡ true)
     go true e = clash _ e h
     go false e = clash _ e g
+
+-- 0 is no number that is given
+pub unnumbered : (bs ps : List ℕ) (place : ℕ) → any (eqb 0) bs ≡ false → any (eqb 0) ps ≡ false → ¬ (given bs ps 0 place ≡ true)
+unnumbered = ungiven 0
 
 -- ---- one step
 

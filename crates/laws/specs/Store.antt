@@ -39,6 +39,16 @@ module _ {A : Type 0} where
   pub sets-over : (d : List A) (i : ℕ) (u v : List A) → sets (sets d i u) i (u ++ v) ≡ sets d i (u ++ v)
   sets-over d i u v = sets-append (sets d i u) i u v ∙ rw (sets-twice d i u) (sym (sets-append d i u v))
 
+  -- a store behind some stores can come before them
+  set-first : (d : List A) (u : List A) (i j : ℕ) (b : A) → i + length u ≤ j → set (sets d i u) j b ≡ sets (set d j b) i u
+  set-first d [] i j b h = refl
+  set-first d (a ∷ u) i j b h = set-first (set d i a) u (suc i) j b (omega arith) ∙ rw (set-comm d i j a b (λ e. omega arith))
+
+  -- stores behind each other come in any order
+  pub sets-swap : (d u v : List A) (i j : ℕ) → i + length u ≤ j → sets (sets d j v) i u ≡ sets (sets d i u) j v
+  sets-swap d u [] i j h = refl
+  sets-swap d u (b ∷ v) i j h = sets-swap (set d j b) u v i (suc j) (omega arith) ∙ rw (set-first d u i j b h)
+
   set-behind : (p r : List A) (j : ℕ) (a : A) → set (p ++ r) (length p + j) a ≡ p ++ set r j a
   set-behind [] r j a = rw zero-add
   set-behind (x ∷ p) r j a = rw suc-add (ap (λ (l : List A). x ∷ l) (set-behind p r j a))

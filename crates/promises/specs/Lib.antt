@@ -17,3 +17,7 @@ pub mod Arguments
 pub mod Worthless
 pub mod EntryPoints
 pub mod Trials
+pub mod History
+pub mod OwnLine
+pub mod Hits
+pub mod Storings

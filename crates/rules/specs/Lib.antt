@@ -11,6 +11,10 @@ pub mod BlockReading
 pub mod Status
 pub mod Suffix
 pub mod Answer
+pub mod Key
+pub mod Cache
+pub mod Store
 pub mod Example
 pub mod Marked
 pub mod Pinned
+pub mod PinnedCache

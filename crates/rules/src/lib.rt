@@ -43,3 +43,13 @@ pub enum Listed {
     Entries { count: usize, units: usize },
     Refused(Refusal),
 }
+
+// The answer of a call of the launch line cache: that no line is held; where in the store's units the line stands that was hit, was held before or is
+// stored now; or why the call was refused.
+pub enum Cached {
+    Missed,
+    Hit { start: usize, units: usize },
+    Held { start: usize, units: usize },
+    Stored { start: usize, units: usize },
+    Refused(Refusal),
+}
