@@ -3,14 +3,14 @@
  * Link target/staticlib/libaslapush.a (`rt staticlib aslapush`), x86-64. It needs `memcpy` at link time, and nothing else.
  *
  * What is lent
- *     Units are UTF-16 code units; unpaired surrogates are ordinary units. Nothing is allocated and nothing is kept: every text, table and output is lent
- *     by the caller as a pointer and a number of elements. A pointer is never NULL, also where its number is 0, and what is written (an output, a span
- *     table, an answer) overlaps nothing else that is handed to the same call. That is all a caller owes: any content may be lent, and an output need not
- *     be cleared.
+ *     Units are UTF-16 code units; unpaired surrogates are ordinary units. Nothing is allocated and nothing is kept: every text, table, output and store is
+ *     lent by the caller as a pointer and a number of elements. A pointer is never NULL, also where its number is 0, and what is written (an output, a span
+ *     table, a store, an answer) overlaps nothing else that is handed to the same call. That is all a caller owes: any content may be lent, and an output
+ *     need not be cleared.
  *
  * What is answered
- *     A function that can refuse returns 0 for an answer, else the refusal's number. Every call fills answer[4], which is how it answers and no part of
- *     what is lent:
+ *     A function that can refuse returns 0 for an answer, else the refusal's number. Every call fills answer[4] (those of the launch line cache answer[5],
+ *     told there), which is how it answers and no part of what is lent:
  *         answer[0]  the refusal's place: the index of the record or entry at fault plus 1, else 0
  *         answer[1]  the number of arguments or entries read (reading only)
  *         answer[2]  the number of units written; of a block that is read, the number used
@@ -41,8 +41,8 @@ extern "C" {
 enum {
     ASLAPUSH_RECORD = 1,     /* a record's kind is none, its part reaches past the text, or the list ends inside a record */
     ASLAPUSH_LENGTH = 2,     /* more units to read or in the whole result than the limit below */
-    ASLAPUSH_PLACES = 3,     /* fewer places are lent than are needed: a span table has one for each argument, two for each entry */
-    ASLAPUSH_ROOM = 4,       /* fewer units are lent than the whole result has */
+    ASLAPUSH_PLACES = 3,     /* fewer places are lent than are needed: a span table has one for each argument, two for each entry; a store's are all used */
+    ASLAPUSH_ROOM = 4,       /* fewer units are lent than the whole result has, or left in a store than the entry uses */
     ASLAPUSH_NUL = 5,        /* a NUL in a program, script, argument, key or value */
     ASLAPUSH_LINE_BREAK = 6, /* CR or LF in a regular argument of a batch line */
     ASLAPUSH_SCRIPT = 7,     /* a script contains a quote mark, or its last unit as lent is a backslash */
@@ -129,6 +129,75 @@ uint32_t aslapush_has_bat_extension(const uint16_t *path, size_t path_len);
 /* The class of a unit: 1 NUL, 2 CR and LF, 3 space and tab, 4 quote, 5 backslash, 6 percent, 7 other units that force quotes in a batch line, 0 the rest.
  *     34      gives 4 */
 uint8_t aslapush_class_of(uint16_t unit);
+
+/* The launch line cache: ordinary lines, each built once and found again. docs/CACHE.md says how many units to lend, and what a store looks like in memory.
+ *
+ * A store is an index of ASLAPUSH_CACHE_WORDS words and any number of units. The caller owns both, makes the store once, and lends the same two, with the same
+ * number of units, to every call. Only the calls below may change them: on other content a call stays within what is lent, a line that it names lies within
+ * the units, and its answer means nothing more.
+ *     An entry is a line of aslapush_make_command_line with its key and a fingerprint. The key is the program, whether `force_quotes` is 0, and kind and text
+ *     of every argument; keys are compared unit by unit, wherever the texts lie. The fingerprint is any 64-bit hash of the key, or any number that mostly
+ *     differs where keys do. It is only a hint: under a bad one more keys are compared, and the line is never another key's. The same key under another
+ *     fingerprint is another entry, so a caller makes it by one rule.
+ *     Start and units of a line hold until the next make or clear: storing moves nothing.
+ *     A store must not be used by two threads at a time without a lock. Lookups change nothing of it, so lookups alone may run side by side.
+ *
+ * Lookup and store fill answer[5]:
+ *     answer[0]  the refusal's place: the index of the record at fault plus 1, else 0
+ *     answer[1]  ASLAPUSH_CACHE_MISSED, .._HIT, .._HELD or .._STORED
+ *     answer[2]  where in `units` the line starts
+ *     answer[3]  how many units it has
+ *     answer[4]  0
+ * After a miss answer[2] and answer[3] are 0, after a refusal all but the place; and a refusal changes nothing of the store.
+ *
+ *     static uint64_t words[ASLAPUSH_CACHE_WORDS], answer[5];
+ *     static uint16_t units[40000], line[ASLAPUSH_LINE_UNITS + 1];
+ *
+ *     aslapush_cache_make(words);                                                         // once
+ *
+ *     number = aslapush_cache_lookup(words, units, 40000, fingerprint, program, program_len, records, records_len, text, text_len, 0, answer);
+ *     if (number == 0 && answer[1] == ASLAPUSH_CACHE_MISSED)                              // storing looks first too: alone it does the same
+ *         number = aslapush_cache_store(words, units, 40000, fingerprint, program, program_len, records, records_len, text, text_len, 0, answer);
+ *     if (number == 0) {                                                                  // the line: answer[3] units from units + answer[2] on
+ *         memcpy(line, units + answer[2], 2 * answer[3]);                                 // a copy: by its public text CreateProcessW may change it
+ *         line[answer[3]] = 0;
+ *     } else if (number == ASLAPUSH_PLACES || number == ASLAPUSH_ROOM) {                  // full: clear and store again, or build without the store
+ *         number = aslapush_make_command_line(program, program_len, records, records_len, text, text_len, 0, line, ASLAPUSH_LINE_UNITS, answer);
+ *         line[answer[2]] = 0;
+ *     }
+ */
+enum {
+    ASLAPUSH_CACHE_ENTRIES = 64, /* the most entries of a store */
+    ASLAPUSH_CACHE_WORDS = 481   /* words of an index, for every store */
+};
+
+/* How a lookup or a storing ended. */
+enum {
+    ASLAPUSH_CACHE_MISSED = 0, /* a lookup: no entry has that fingerprint and that key */
+    ASLAPUSH_CACHE_HIT = 1,    /* a lookup: here is its line */
+    ASLAPUSH_CACHE_HELD = 2,   /* a storing: it was held before, and nothing is changed; here is its line */
+    ASLAPUSH_CACHE_STORED = 3  /* a storing: it is held now; here is its line */
+};
+
+/* Makes a store that has no entries, whatever the index held. Never refuses. */
+void aslapush_cache_make(uint64_t index[ASLAPUSH_CACHE_WORDS]);
+
+/* Removes all entries: the only removal there is. Never refuses. */
+void aslapush_cache_clear(uint64_t index[ASLAPUSH_CACHE_WORDS]);
+
+/* Looks for the line of a key under a fingerprint. Program, records, text and flag are as for aslapush_make_command_line.
+ * Refuses 1 over all records, and nothing else: what the builder would refuse otherwise is merely not held. */
+uint32_t aslapush_cache_lookup(const uint64_t index[ASLAPUSH_CACHE_WORDS], const uint16_t *units, size_t units_len, uint64_t fingerprint,
+                               const uint16_t *program, size_t program_len, const uint32_t *records, size_t records_len, const uint16_t *text,
+                               size_t text_len, uint32_t force_quotes, uint64_t answer[5]);
+
+/* Builds the line of a key and stores it under a fingerprint, unless it is held. An entry uses program_len, the units of all argument texts and of the line,
+ * and 2 for each argument.
+ * Refuses 1, 5 and 2 as aslapush_make_command_line; then, unless it is held, 3 where all entries are used; 4 where the entry uses more units than are left.
+ *     a new store of 26 units, program exe, records 0 0 1, text `a`      gives ASLAPUSH_CACHE_STORED, start 6, 7 units: "exe" a. 13 units are left */
+uint32_t aslapush_cache_store(uint64_t index[ASLAPUSH_CACHE_WORDS], uint16_t *units, size_t units_len, uint64_t fingerprint, const uint16_t *program,
+                              size_t program_len, const uint32_t *records, size_t records_len, const uint16_t *text, size_t text_len, uint32_t force_quotes,
+                              uint64_t answer[5]);
 
 #ifdef __cplusplus
 }

@@ -1,4 +1,4 @@
-/* Checks include/aslapush.h against the archive: every example that the header gives, every refusal, room at its bounds, and each limit. */
+/* Checks include/aslapush.h against the archive: every example that the header gives, every refusal, room at its bounds, each limit, and a store of lines. */
 #include "aslapush.h"
 #include <stdio.h>
 #include <string.h>
@@ -103,6 +103,52 @@ static size_t dumped(const char *ascii) {
         if (dump[i] == '/')
             dump[i] = 0;
     return n;
+}
+
+/* A store, and what it held before a call. Its units are lent up to a number, and those behind must keep their content. */
+enum { ALL = 600 };
+static uint64_t words[ASLAPUSH_CACHE_WORDS], words_kept[ASLAPUSH_CACHE_WORDS], c[5];
+static uint16_t shelf[ALL + 8], shelf_kept[ALL + 8];
+
+/* The store before a call. */
+static void ready_store(void) {
+    memset(c, 0xee, sizeof c);
+    memcpy(words_kept, words, sizeof words);
+    memcpy(shelf_kept, shelf, sizeof shelf);
+}
+
+/* A key whose program and text are in `name` and `text`. */
+struct key {
+    size_t program_len;
+    const uint32_t *records;
+    size_t numbers;
+    size_t text_len;
+    uint32_t force;
+};
+
+static uint32_t look(uint64_t fingerprint, struct key k, size_t lent) {
+    ready_store();
+    return aslapush_cache_lookup(words, shelf, lent, fingerprint, name, k.program_len, k.records, k.numbers, text, k.text_len, k.force, c);
+}
+
+static uint32_t store(uint64_t fingerprint, struct key k, size_t lent) {
+    ready_store();
+    return aslapush_cache_store(words, shelf, lent, fingerprint, name, k.program_len, k.records, k.numbers, text, k.text_len, k.force, c);
+}
+
+/* The five numbers of an answer. */
+static int served(uint64_t place, uint64_t state, uint64_t start, uint64_t count) {
+    return c[0] == place && c[1] == state && c[2] == start && c[3] == count && c[4] == 0;
+}
+
+/* The store is as it was before the call. */
+static int untouched(void) {
+    return memcmp(words, words_kept, sizeof words) == 0 && memcmp(shelf, shelf_kept, sizeof shelf) == 0;
+}
+
+/* Nothing is changed in front of a part of the store's units, and nothing behind it. */
+static int around(size_t from, size_t to) {
+    return memcmp(shelf, shelf_kept, 2 * from) == 0 && memcmp(shelf + to, shelf_kept + to, sizeof shelf - 2 * to) == 0;
 }
 
 static uint32_t status(uint32_t recorded, size_t room) {
@@ -232,6 +278,117 @@ static void block_reading(void) {
     expect(entries(n + 1, 0) == ASLAPUSH_LENGTH && listed(0, 0, 0), "a unit too many, before a bad entry");
 }
 
+static void caching(void) {
+    uint32_t first[3] = {0, 0, 1}, raw[3] = {1, 0, 1}, again[3] = {0, 2, 1}, other[3] = {0, 1, 1};
+    size_t p = units("exe", name), t = units("aba", text), lent = 26;
+    struct key a_key = {p, first, 3, t, 0}, a_raw = {p, raw, 3, t, 0}, a_forced = {p, first, 3, t, 7};
+    struct key a_again = {p, again, 3, t, 0}, b_key = {p, other, 3, t, 0};
+    memset(words, 0xee, sizeof words);
+    memset(shelf, 0xdd, sizeof shelf);
+    aslapush_cache_make(words);
+    expect(look(5, a_key, lent) == 0 && served(0, ASLAPUSH_CACHE_MISSED, 0, 0) && untouched(), "a store that is made holds nothing");
+    expect(store(5, a_key, lent) == 0 && served(0, ASLAPUSH_CACHE_STORED, 6, 7) && around(0, 13), "a line is stored");
+    expect(same(shelf + c[2], c[3], "\"exe\" a"), "its units");
+    expect(look(5, a_key, lent) == 0 && served(0, ASLAPUSH_CACHE_HIT, 6, 7) && untouched(), "a lookup hits it");
+    expect(store(5, a_key, lent) == 0 && served(0, ASLAPUSH_CACHE_HELD, 6, 7) && untouched(), "stored again it is held, and nothing is changed");
+    expect(look(5, a_again, lent) == 0 && served(0, ASLAPUSH_CACHE_HIT, 6, 7), "an equal text at another place is the same key");
+    expect(look(6, a_key, lent) == 0 && served(0, ASLAPUSH_CACHE_MISSED, 0, 0), "another fingerprint");
+    expect(look(5, a_raw, lent) == 0 && served(0, ASLAPUSH_CACHE_MISSED, 0, 0), "another kind");
+    expect(look(5, a_forced, lent) == 0 && served(0, ASLAPUSH_CACHE_MISSED, 0, 0), "another flag");
+    expect(look(5, b_key, lent) == 0 && served(0, ASLAPUSH_CACHE_MISSED, 0, 0), "another text under the same fingerprint");
+    expect(store(5, b_key, lent) == 0 && served(0, ASLAPUSH_CACHE_STORED, 19, 7) && around(13, lent), "just the units that are left");
+    expect(look(5, a_key, lent) == 0 && served(0, ASLAPUSH_CACHE_HIT, 6, 7), "two keys under one fingerprint: the first");
+    expect(look(5, b_key, lent) == 0 && served(0, ASLAPUSH_CACHE_HIT, 19, 7) && same(shelf + c[2], c[3], "\"exe\" b"), "and the second");
+    aslapush_cache_clear(words);
+    expect(look(5, a_key, lent) == 0 && served(0, ASLAPUSH_CACHE_MISSED, 0, 0), "a store that is cleared holds nothing");
+    expect(store(5, a_forced, lent) == 0 && served(0, ASLAPUSH_CACHE_STORED, 6, 9), "and has all its units again");
+    expect(look(5, a_forced, lent) == 0 && same(shelf + c[2], c[3], "\"exe\" \"a\""), "quotes forced by 7");
+    a_forced.force = 1;
+    expect(look(5, a_forced, lent) == 0 && served(0, ASLAPUSH_CACHE_HIT, 6, 9), "are those forced by 1");
+    expect(store(5, b_key, lent) == ASLAPUSH_ROOM && served(0, 0, 0, 0) && untouched(), "two units less than the entry uses");
+}
+
+static void caching_refusals(void) {
+    uint32_t records[6] = {0, 0, 1, 0, 1, 1}, odd[6] = {0, 0, 1, 2, 0, 0};
+    size_t p = units("exe", name), t = units("ab", text);
+    struct key k = {p, records, 6, t, 0}, cut = {p, records, 5, t, 0}, none = {p, odd, 6, t, 0}, bare = {p, records, 0, 0, 0};
+    aslapush_cache_make(words);
+    expect(look(1, cut, ALL) == ASLAPUSH_RECORD && served(2, 0, 0, 0) && untouched(), "looking up: a cut record");
+    expect(store(1, none, ALL) == ASLAPUSH_RECORD && served(2, 0, 0, 0) && untouched(), "storing: a kind that is none");
+    text[1] = 0;
+    expect(store(1, k, ALL) == ASLAPUSH_NUL && served(2, 0, 0, 0) && untouched(), "storing: a NUL");
+    expect(look(1, k, ALL) == 0 && served(0, ASLAPUSH_CACHE_MISSED, 0, 0), "looking up: it is merely not held");
+    name[1] = 0;
+    expect(store(1, k, ALL) == ASLAPUSH_NUL && served(0, 0, 0, 0) && untouched(), "storing: a NUL in the program");
+    bare.program_len = repeated('a', ASLAPUSH_LINE_UNITS - 1, name);
+    expect(store(1, bare, ALL) == ASLAPUSH_LENGTH && served(0, 0, 0, 0) && untouched(), "storing: a line too long, before its room");
+    expect(look(1, bare, ALL) == 0 && served(0, ASLAPUSH_CACHE_MISSED, 0, 0), "looking up: it is merely not held");
+}
+
+/* As many entries as a store holds, of one key under fingerprints from 0 on: each uses 8 units. */
+static void caching_full(void) {
+    uint32_t records[1] = {0};
+    struct key bare = {units("exe", name), records, 0, 0, 0}, cut = {3, records, 1, 0, 0};
+    int stored = 1, found = 1;
+    aslapush_cache_make(words);
+    for (uint64_t i = 0; i < ASLAPUSH_CACHE_ENTRIES; i++) {
+        stored &= store(i, bare, ALL) == 0 && served(0, ASLAPUSH_CACHE_STORED, 8 * i + 3, 5);
+        found &= look(i, bare, ALL) == 0 && served(0, ASLAPUSH_CACHE_HIT, 8 * i + 3, 5);
+    }
+    expect(stored && found, "as many entries as a store holds");
+    expect(look(0, bare, ALL) == 0 && served(0, ASLAPUSH_CACHE_HIT, 3, 5) && same(shelf + 3, 5, "\"exe\""), "the first is where it was");
+    expect(store(64, bare, 8 * 64) == ASLAPUSH_PLACES && served(0, 0, 0, 0) && untouched(), "all are used, before no units are left");
+    expect(store(64, cut, ALL) == ASLAPUSH_RECORD && served(1, 0, 0, 0) && untouched(), "a refusal of the builder, before all are used");
+    expect(store(63, bare, ALL) == 0 && served(0, ASLAPUSH_CACHE_HELD, 8 * 63 + 3, 5) && untouched(), "what is held stays held");
+    aslapush_cache_make(words);
+    expect(look(0, bare, ALL) == 0 && served(0, ASLAPUSH_CACHE_MISSED, 0, 0), "a store made anew holds nothing");
+}
+
+/* A lookup and a storing in a store whose words these calls did not write: nothing outside is changed, and a line lies within the units. */
+static int stays_within(uint64_t even, uint64_t odd, struct key k, size_t lent) {
+    for (size_t i = 0; i < ASLAPUSH_CACHE_WORDS; i++)
+        words[i] = i % 2 ? odd : even;
+    int within = (look(even, k, lent) != 0 || c[2] + c[3] <= lent) && untouched();
+    return within && (store(odd, k, lent) != 0 || c[2] + c[3] <= lent) && around(0, lent);
+}
+
+static void caching_elsewhere(void) {
+    uint32_t records[3] = {0, 0, 1};
+    uint64_t contents[6] = {0, 1, 63, 99, 101, ~(uint64_t)0};
+    struct key k = {units("exe", name), records, 3, units("a", text), 0};
+    int within = 1;
+    for (size_t i = 0; i < 36; i++)
+        within &= stays_within(contents[i / 6], contents[i % 6], k, 100);
+    expect(within, "a store of any content: a call stays within it");
+}
+
+/* The header's example: a line and its NUL, from the store or, where that is full, without it. */
+static size_t launched(uint64_t fingerprint, struct key k, size_t lent, uint16_t *to) {
+    uint32_t number = look(fingerprint, k, lent);
+    if (number == 0 && c[1] == ASLAPUSH_CACHE_MISSED)
+        number = store(fingerprint, k, lent);
+    if (number == 0) {
+        memcpy(to, shelf + c[2], 2 * c[3]);
+        to[c[3]] = 0;
+        return c[3];
+    }
+    if (number == ASLAPUSH_PLACES || number == ASLAPUSH_ROOM)
+        number = aslapush_make_command_line(name, k.program_len, k.records, k.numbers, text, k.text_len, k.force, to, ASLAPUSH_LINE_UNITS, a);
+    to[a[2]] = 0;
+    return number == 0 ? a[2] : 0;
+}
+
+static void caching_example(void) {
+    uint32_t records[3] = {0, 0, 3};
+    struct key k = {units("exe", name), records, 3, units("a b", text), 0};
+    aslapush_cache_make(words);
+    expect(launched(1, k, 19, out) == 11 && same(out, 11, "\"exe\" \"a b\"") && out[11] == 0 && c[1] == ASLAPUSH_CACHE_STORED, "stored and copied");
+    memset(out, 0xdd, sizeof out);
+    expect(launched(1, k, 19, out) == 11 && same(out, 11, "\"exe\" \"a b\"") && out[11] == 0 && c[1] == ASLAPUSH_CACHE_HIT, "hit and copied");
+    memset(out, 0xdd, sizeof out);
+    expect(launched(2, k, 19, out) == 11 && same(out, 11, "\"exe\" \"a b\"") && out[11] == 0, "full, and built without the store");
+}
+
 static void statuses(void) {
     expect(status(3221225477u, ASLAPUSH_STATUS_UNITS) == 0 && told(0, 0, 21) && same(out, 21, "exit code: 0xc0000005"), "a status");
     expect(status(0, 11) == ASLAPUSH_ROOM && told(0, 0, 0), "a status without room");
@@ -244,6 +401,11 @@ int main(void) {
     batches();
     blocks();
     block_reading();
+    caching();
+    caching_refusals();
+    caching_full();
+    caching_elsewhere();
+    caching_example();
     statuses();
     size_t p = units("a.CMD", name);
     expect(aslapush_has_bat_extension(name, p) == 1 && aslapush_has_bat_extension(name, p - 1) == 0, "suffixes");

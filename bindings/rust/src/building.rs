@@ -56,6 +56,11 @@ impl CommandLine {
         raw::make_bat_command_line(&self.program, &self.args, self.force_quotes, room)
     }
 
+    /// What a line is held by in a [`LineCache`](crate::LineCache).
+    pub(crate) fn key(&self) -> raw::Key<'_> {
+        raw::Key { program: &self.program, args: &self.args, force_quotes: self.force_quotes }
+    }
+
     /// A record has three numbers: kind, start and length.
     fn with(mut self, kind: u32, text: &[u16]) -> Self {
         self.args.push_number(kind);

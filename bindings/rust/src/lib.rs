@@ -12,6 +12,7 @@
 //! ```
 #![warn(missing_docs, unsafe_op_in_unsafe_fn)]
 mod building;
+mod cache;
 mod entries;
 mod flat;
 mod raw;
@@ -19,6 +20,7 @@ mod refusal;
 mod room;
 
 pub use building::{CommandLine, EnvironmentBlock};
+pub use cache::{Kept, LineCache};
 pub use entries::Entries;
 pub use refusal::Refusal;
 
@@ -32,6 +34,10 @@ pub const BATCH_UNITS: usize = LINE_UNITS;
 pub const BLOCK_UNITS: usize = 65_535;
 /// The most units of a status text.
 pub const STATUS_UNITS: usize = 21;
+/// The most lines that a [`LineCache`] holds.
+pub const CACHE_ENTRIES: usize = 64;
+/// The words that a [`LineCache`] takes for its index, beside its units.
+pub const CACHE_WORDS: usize = 481;
 
 /// The units of a text.
 pub fn wide(text: &str) -> Vec<u16> {

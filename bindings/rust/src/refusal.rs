@@ -14,9 +14,10 @@ pub enum Refusal {
     /// 2: more units than the limit: [`READ_UNITS`](crate::READ_UNITS) to read, [`LINE_UNITS`](crate::LINE_UNITS) or
     /// [`BATCH_UNITS`](crate::BATCH_UNITS) in a built line, [`BLOCK_UNITS`](crate::BLOCK_UNITS) in a block.
     Length,
-    /// 3: fewer places are lent than are needed. This crate lends enough, so it does not arise here.
+    /// 3: all entries of a [`LineCache`](crate::LineCache) are used. Elsewhere, fewer places are lent than are needed: this crate lends enough.
     Places,
-    /// 4: fewer units are lent than are needed. This crate lends enough, so it does not arise here.
+    /// 4: fewer units are left in a [`LineCache`](crate::LineCache) than the line and its key take. Elsewhere, fewer are lent than are needed: this crate
+    /// lends enough.
     Room,
     /// 5: a NUL in a program, script, argument, key or value.
     Nul {
@@ -64,8 +65,8 @@ impl Refusal {
     /// The refusal of a number and a place that the library gave.
     ///
     /// A number that is not here can only come from an archive that is not of this crate's version: the proved functions give no other (theorems read-only,
-    /// line-only, batch-only, block-only, entries-only and status-only of docs/PROMISES.md). That is a fault of the build and no property of the caller's
-    /// input, so it is no variant, which every caller would have to handle and none could: it panics.
+    /// line-only, batch-only, block-only, entries-only, status-only, lookup-only and store-only of docs/PROMISES.md). That is a fault of the build and no
+    /// property of the caller's input, so it is no variant, which every caller would have to handle and none could: it panics.
     pub(crate) fn of(number: u32, place: usize) -> Refusal {
         match number {
             1 => Refusal::Record { place },
@@ -86,8 +87,8 @@ impl fmt::Display for Refusal {
         match self {
             Refusal::Record { place } => write!(f, "record {place} has no kind, reaches past the text or is cut"),
             Refusal::Length => write!(f, "the line or block is too long: shorten it"),
-            Refusal::Places => write!(f, "too few places are lent: lend more"),
-            Refusal::Room => write!(f, "too few units are lent: lend more"),
+            Refusal::Places => write!(f, "too few places are lent, or a cache has used all its entries: lend more, or clear it"),
+            Refusal::Room => write!(f, "too few units are lent, or left in a cache: lend more, or clear it"),
             Refusal::Nul { place: 0 } => write!(f, "the program or script contains a NUL: remove it"),
             Refusal::Nul { place } => write!(f, "item {place} contains a NUL: remove it"),
             Refusal::LineBreak { place } => write!(f, "argument {place} contains CR or LF, which would cut a batch line short: remove it"),

@@ -1,24 +1,10 @@
 //! The binding against the archive: lists go through a line and back, entries through a block, room is enough at every bound, and every refusal that can
 //! arise is named.
 use aslapush::{class_of, code, has_bat_extension, parse, status_text, wide, CommandLine, EnvironmentBlock, Refusal};
-use aslapush::{BATCH_UNITS, BLOCK_UNITS, LINE_UNITS, READ_UNITS};
+use aslapush::{BATCH_UNITS, BLOCK_UNITS, CACHE_ENTRIES, CACHE_WORDS, LINE_UNITS, READ_UNITS};
+use numbers::Numbers;
 
-/// A small generator of numbers, so that the tests need nothing else.
-struct Numbers(u64);
-
-impl Numbers {
-    fn below(&mut self, n: u64) -> u64 {
-        self.0 ^= self.0 << 13;
-        self.0 ^= self.0 >> 7;
-        self.0 ^= self.0 << 17;
-        self.0 % n
-    }
-
-    /// Fewer than n units out of a pool.
-    fn units(&mut self, pool: &[u16], n: u64) -> Vec<u16> {
-        (0..self.below(n)).map(|_| pool[self.below(pool.len() as u64) as usize]).collect()
-    }
-}
+mod numbers;
 
 #[test]
 fn regular_arguments_come_back() {
@@ -170,6 +156,9 @@ fn limits_are_those_of_the_header_and_of_the_table() {
     let row = include_str!("../../../README.md").lines().find(|row| row.starts_with("| 2 |")).unwrap();
     let said: Vec<usize> = row.split(' ').filter(|word| word.contains(',')).filter_map(|word| word.replace(',', "").parse().ok()).collect();
     assert_eq!(said, [READ_UNITS, LINE_UNITS, BLOCK_UNITS]);
+    assert_eq!(["ASLAPUSH_CACHE_ENTRIES", "ASLAPUSH_CACHE_WORDS"].map(in_header), [CACHE_ENTRIES, CACHE_WORDS]);
+    let page = include_str!("../../../docs/CACHE.md");
+    assert!(page.contains(&format!("up to {CACHE_ENTRIES} ordinary lines")) && page.contains(&format!("An index of {CACHE_WORDS} words")));
 }
 
 #[test]

@@ -11,11 +11,15 @@ ghost use Rattle.rules.specs.BlockReading.{blockReading};
 ghost use Rattle.rules.specs.Status.{statusOutcome, signedCode};
 ghost use Rattle.rules.specs.Suffix.{hasBatchSuffix};
 ghost use Rattle.reading.specs.Span.{argumentSpan};
-ghost use Rattle.aslapush.specs.Export.{forces, Wrote, Gave, Tabulated, startAndLength, asNumber};
+ghost use Rattle.rules.specs.Key.{launch};
+ghost use Rattle.rules.specs.Store.{Empties};
+ghost use Rattle.aslapush.specs.Export.{forces, Wrote, Gave, Tabulated, startAndLength, asNumber, LookupTold, StoreTold};
 use answers::tell_built;
+use answers::tell_cached;
 use answers::tell_filled;
 use answers::tell_listed;
 use answers::tell_parsed;
+use cache::WORDS;
 
 // Reads a line into texts and spans. Returns the refusal's number, 0 for an answer.
 #[no_mangle]
@@ -128,4 +132,72 @@ pub extern "C" fn aslapush_argument(text: &[u16], spans: &[u32], index: usize, p
 {
     let span = reading::span_of(text, spans, index);
     *part = [span.start as u64, span.len as u64];
+}
+
+// Makes a store of the launch line cache, without entries, whatever the index held.
+#[no_mangle]
+pub extern "C" fn aslapush_cache_make(index: &mut [u64; WORDS])
+    ensures { λ _. ⌜ Empties (now (index .entry)) (now (index .exit)) ⌝ }
+{
+    cache::make(index);
+}
+
+// Removes all entries of a store.
+#[no_mangle]
+pub extern "C" fn aslapush_cache_clear(index: &mut [u64; WORDS])
+    ensures { λ _. ⌜ Empties (now (index .entry)) (now (index .exit)) ⌝ }
+{
+    cache::clear(index);
+}
+
+// Looks for the line of a key under a fingerprint. Any number but 0 forces quotes. Returns the refusal's number, 0 for an answer.
+#[no_mangle]
+pub extern "C" fn aslapush_cache_lookup(
+    index: &[u64; WORDS],
+    units: &[u16],
+    fingerprint: u64,
+    program: &[u16],
+    records: &[u32],
+    text: &[u16],
+    force_quotes: u32,
+    answer: &mut [u64; 5],
+) -> u32
+    ensures { λ r. ⌜ LookupTold (now (index .entry)) (now (units .entry)) fingerprint (launch (forces «force_quotes») (now (program .entry)) (now (records .entry)) (now (text .entry))) r (now (answer .exit)) ⌝ }
+{
+    let cached = cache::lookup(
+        index,
+        units,
+        fingerprint,
+        program,
+        records,
+        text,
+        force_quotes != 0,
+    );
+    tell_cached(cached, answer)
+}
+
+// Stores the line of a key under a fingerprint. Any number but 0 forces quotes. Returns the refusal's number, 0 for an answer.
+#[no_mangle]
+pub extern "C" fn aslapush_cache_store(
+    index: &mut [u64; WORDS],
+    units: &mut [u16],
+    fingerprint: u64,
+    program: &[u16],
+    records: &[u32],
+    text: &[u16],
+    force_quotes: u32,
+    answer: &mut [u64; 5],
+) -> u32
+    ensures { λ r. ⌜ StoreTold fingerprint (launch (forces «force_quotes») (now (program .entry)) (now (records .entry)) (now (text .entry))) r (now (answer .exit)) (now (index .entry)) (now (units .entry)) (now (index .exit)) (now (units .exit)) ⌝ }
+{
+    let cached = cache::store(
+        index,
+        units,
+        fingerprint,
+        program,
+        records,
+        text,
+        force_quotes != 0,
+    );
+    tell_cached(cached, answer)
 }
