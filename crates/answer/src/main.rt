@@ -1,9 +1,6 @@
 // Answers the questions of standard input, one a line, each by one line of standard output, in order.
 ghost use Prim.Native.Nat.{_<_};
 ghost use lib.ListN.{length};
-
-mod room;
-
 use dialogue::begin;
 use dialogue::next_line;
 use dialogue::show;
@@ -38,13 +35,13 @@ fn answer_all(
 
 // What is lent is made once.
 fn main() {
-    let mut chunk = room::piece();
-    let mut line = room::line();
-    let mut text = room::units();
-    let mut numbers = room::numbers();
-    let mut out = room::units();
-    let mut spans = room::spans();
-    let mut piece = room::piece();
+    let mut chunk = rooms::piece();
+    let mut line = rooms::line();
+    let mut text = rooms::units();
+    let mut numbers = rooms::numbers();
+    let mut out = rooms::units();
+    let mut spans = rooms::spans();
+    let mut piece = rooms::piece();
     answer_all(
         &mut chunk,
         &mut line,

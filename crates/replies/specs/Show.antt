@@ -36,6 +36,10 @@ unfolding units
 wordBytes Word.Bad = units "bad"
 wordBytes Word.Ok = units "ok"
 wordBytes Word.Refused = units "refused"
+wordBytes Word.Hit = units "hit"
+wordBytes Word.Miss = units "miss"
+wordBytes Word.Stored = units "stored"
+wordBytes Word.Held = units "held"
 
 -- what stands in front of a text: a space, or the colon between a key and its value
 abbrev pub separatorOf : Manner → ℕ

@@ -18,6 +18,10 @@ pub enum Word {
     Bad,
     Ok,
     Refused,
+    Hit,
+    Miss,
+    Stored,
+    Held,
 }
 
 // What a text is: one of its own, or the key or the value of an entry, in which a colon is `{3a}`.
@@ -51,6 +55,10 @@ fn put_word(piece: &mut [u8], p: Place, word: Word) -> Place
         Word::Bad => put_run(piece, p, b"bad"),
         Word::Ok => put_run(piece, p, b"ok"),
         Word::Refused => put_run(piece, p, b"refused"),
+        Word::Hit => put_run(piece, p, b"hit"),
+        Word::Miss => put_run(piece, p, b"miss"),
+        Word::Stored => put_run(piece, p, b"stored"),
+        Word::Held => put_run(piece, p, b"held"),
     }
 }
 

@@ -2,14 +2,15 @@
 use Prim.Native.Nat.{ℕ, _*_, min}
 use mathlib.Core.Path.{_≡_}
 use mathlib.Core.Bool.{Bool, false}
-use mathlib.Core.List.{List}
+use mathlib.Core.List.{List, [], _∷_}
 use lib.Dec.{eqb}
 use lib.ListN.{length}
 use lib.Seq.{sets}
 use Rattle.rules.specs.Choice.{pick}
-use Rattle.rules.specs.Outcome.{Outcome, filled}
+use Rattle.rules.specs.Outcome.{Outcome, done, refused, filled}
 use Rattle.rules.specs.Record.{Entry}
 use Rattle.rules.specs.Answer.{Said, Answered, entriesSaid, outcomeEntrySpans}
+use Rattle.rules.specs.Cache.{Served, missed, hit, held, stored}
 use Rattle.replies.specs.declared.answers.Answer.{Answer}
 use Rattle.replies.specs.declared.answers.Manner.{Manner}
 use Rattle.replies.specs.declared.answers.Manner.the-variants as Manner
@@ -68,6 +69,26 @@ countsTold spans said = orRefused said spans (brief Word.Ok 2 (said .arguments) 
 unfoldable pub entriesTold : ℕ → Said → Answer
 entriesTold places said = orRefused said 0 (answer Word.Ok 1 (said .units) 0 Manner.Key (min (said .arguments * 4) places))
 
+-- the two numbers of the span table that name so many units from a start on
+abbrev pub spanOf : ℕ → ℕ → List ℕ
+spanOf start units = min start 4294967295 ∷ min units 4294967295 ∷ []
+
+-- `hit LINE`, `miss`, `stored LINE` or `held LINE`
+abbrev pub servedTold : Outcome Served → Answer
+servedTold (done missed) = brief Word.Miss 0 0 0 0
+servedTold (done (hit start units)) = brief Word.Hit 0 0 0 2
+servedTold (done (held start units)) = brief Word.Held 0 0 0 2
+servedTold (done (stored start units)) = brief Word.Stored 0 0 0 2
+servedTold (refused number place) = brief Word.Refused 2 number place 0
+
+-- where LINE stands in the store's units
+abbrev pub servedSpan : Outcome Served → List ℕ
+servedSpan (done missed) = []
+servedSpan (done (hit start units)) = spanOf start units
+servedSpan (done (held start units)) = spanOf start units
+servedSpan (done (stored start units)) = spanOf start units
+servedSpan (refused number place) = []
+
 -- the same answer with the numbers from one place of the table up to another
 abbrev pub numbered : Answer → ℕ → ℕ → Bool → Answer
 numbered a from to negative = record { word = a .word; count = a .count; first = a .first; second = a .second; manner = a .manner; spans = a .spans; from = from; to = to; negative = negative }
@@ -85,3 +106,8 @@ pub record Lists (o : Outcome (List Entry)) (block : List ℕ) (r : Answer) (spa
   pub shown : r ≡ entriesTold (length spans) (entriesSaid o)
   pub tabulates : spans′ ≡ filled spans (outcomeEntrySpans o)
   pub shows : out′ ≡ sets out 0 block
+
+-- what is answered is shown of what a call of the cache came to, and the table's first text is the line
+pub record Serves (o : Outcome Served) (r : Answer) (spans spans′ : List ℕ) : Type 0 where
+  pub shown : r ≡ servedTold o
+  pub names : spans′ ≡ sets spans 0 (servedSpan o)

@@ -1,15 +1,16 @@
-// What an entry point said, as an answer: `ok` with numbers and texts, or `refused` with the number and the place.
+// What an entry point said, as an answer: `ok` or a word of the cache with numbers and texts, or `refused` with the number and the place.
 ghost use mathlib.Core.Path.{_≡_};
-ghost use mathlib.Core.List.{[], _∷_};
 ghost use Prim.Native.Nat.{_*_, min};
 ghost use lib.Seq.{sets};
 ghost use Rattle.rules.specs.Answer.{builtSaid, filledSaid, gave, listedSaid, parsedSaid, refusalSaid};
+ghost use Rattle.rules.specs.Store.{cachedSaid};
 ghost use Rattle.sayings.specs.Told.{answer as Told·answer, brief as Told·brief};
-ghost use Rattle.sayings.specs.Told.{saidIn, numbered, textTold, lentTold, textsTold, countsTold, entriesTold};
+ghost use Rattle.sayings.specs.Told.{saidIn, numbered, textTold, lentTold, textsTold, countsTold, entriesTold, spanOf, Serves};
 use replies::answers::Answer;
 use replies::answers::Manner;
 use replies::answers::Word;
 use rules::Built;
+use rules::Cached;
 use rules::Filled;
 use rules::Listed;
 use rules::Parsed;
@@ -126,12 +127,19 @@ pub fn with_numbers(a: Answer, from: usize, to: usize, negative: bool) -> Answer
     r
 }
 
+// Names so many units from a start on as the table's first text.
+fn name_part(spans: &mut [u32], start: usize, units: usize)
+    ensures { λ _. ⌜ now (spans .exit) ≡ sets (now (spans .entry)) 0 (spanOf start units) ⌝ }
+{
+    put_number(spans, 0, smaller(start, 4294967295) as u32);
+    put_number(spans, 1, smaller(units, 4294967295) as u32);
+}
+
 // Names so many units in front of the output as the table's first text.
 pub fn name_front(spans: &mut [u32], units: usize)
-    ensures { λ _. ⌜ now (spans .exit) ≡ sets (now (spans .entry)) 0 (0 ∷ min units 4294967295 ∷ []) ⌝ }
+    ensures { λ _. ⌜ now (spans .exit) ≡ sets (now (spans .entry)) 0 (spanOf 0 units) ⌝ }
 {
-    put_number(spans, 0, 0);
-    put_number(spans, 1, smaller(units, 4294967295) as u32);
+    name_part(spans, 0, units);
 }
 
 // `ok TEXT`
@@ -194,4 +202,28 @@ pub fn entries_told(s: Saying, places: usize) -> Answer
         return answer(Word::Ok, 1, s.units, 0, Manner::Key, named);
     }
     brief(Word::Refused, 2, s.number, s.place, 0)
+}
+
+// A word, and the line that stands at a start of the store's units, as the table's first text.
+fn line_told(word: Word, start: usize, units: usize, spans: &mut [u32]) -> Answer
+    ensures { λ r. ⌜ (r ≡ Told·brief word 0 0 0 2) × (now (spans .exit) ≡ sets (now (spans .entry)) 0 (spanOf start units)) ⌝ }
+{
+    name_part(spans, start, units);
+    brief(word, 0, 0, 0, 2)
+}
+
+// `hit LINE`, `miss`, `stored LINE` or `held LINE`; the table's first text is the line, a part of the store's units
+pub fn cached_told(c: Cached, spans: &mut [u32]) -> Answer
+    ensures { λ r. ⌜ Serves (cachedSaid c) r (now (spans .entry)) (now (spans .exit)) ⌝ }
+{
+    match c {
+        Cached::Missed => brief(Word::Miss, 0, 0, 0, 0),
+        Cached::Hit { start, units } => line_told(Word::Hit, start, units, spans),
+        Cached::Held { start, units } => line_told(Word::Held, start, units, spans),
+        Cached::Stored { start, units } => line_told(Word::Stored, start, units, spans),
+        Cached::Refused(r) => {
+            let s = of_refusal(r);
+            brief(Word::Refused, 2, s.number, s.place, 0)
+        }
+    }
 }

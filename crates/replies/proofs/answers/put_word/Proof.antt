@@ -23,9 +23,35 @@ returns-3 c =
     let at-enum-told3 = c .before .before .before .before .before in
     rw (at-enum-told3 .enum-told3 .given .1) (c .before .before .put-run3 .ensures)
 
+returns-4 : tie.Need-returns-4
+unfolding wordBytes units
+returns-4 c =
+    let at-enum-told4 = c .before .before .before .before .before in
+    rw (at-enum-told4 .enum-told4 .given .1) (c .before .before .put-run4 .ensures)
+
+returns-5 : tie.Need-returns-5
+unfolding wordBytes units
+returns-5 c =
+    let at-enum-told5 = c .before .before .before .before .before in
+    rw (at-enum-told5 .enum-told5 .given .1) (c .before .before .put-run5 .ensures)
+
+returns-6 : tie.Need-returns-6
+unfolding wordBytes units
+returns-6 c =
+    let at-enum-told6 = c .before .before .before .before .before in
+    rw (at-enum-told6 .enum-told6 .given .1) (c .before .before .put-run6 .ensures)
+
+returns-7 : tie.Need-returns-7
+unfolding wordBytes units
+returns-7 c =
+    let at-enum-told7 = c .before .before .before .before .before in
+    rw (at-enum-told7 .enum-told7 .given .1) (c .before .before .put-run7 .ensures)
+
 pub put-word-spec : {M : Type 1} → statement M
 put-word-spec =
     tie.close
     (tie.spec (λ c. search needs) (λ c. search needs) (λ c κs. search needs) (λ c. search needs) (λ c. search needs) (λ c κs. search needs)
-    (λ c. search needs) (λ c. search needs) (λ c κs. search needs) (λ c. search needs) returns (λ c. search needs) returns-2 (λ c. search needs)
-    returns-3)
+    (λ c. search needs) (λ c. search needs) (λ c κs. search needs) (λ c. search needs) (λ c. search needs) (λ c κs. search needs) (λ c. search needs)
+    (λ c. search needs) (λ c κs. search needs) (λ c. search needs) (λ c. search needs) (λ c κs. search needs) (λ c. search needs) (λ c. search needs)
+    (λ c κs. search needs) (λ c. search needs) returns (λ c. search needs) returns-2 (λ c. search needs) returns-3 (λ c. search needs) returns-4
+    (λ c. search needs) returns-5 (λ c. search needs) returns-6 (λ c. search needs) returns-7)

@@ -1,9 +1,9 @@
--- `answer::room::piece` meets its contract. Assumes nothing.
+-- `rooms::piece` meets its contract. Assumes nothing.
 use Prim.Native.Nat.{ℕ}
 use mathlib.Core.Path.{sym}
 use lib.ListN.{length-replicate}
-use Rattle.answer.proofs.room.piece.Statement.{statement}
-use Rattle.answer.proofs.room.piece.Tie as tie
+use Rattle.rooms.proofs.piece.Statement.{statement}
+use Rattle.rooms.proofs.piece.Tie as tie
 
 returns : tie.Need-returns
 returns c = sym (length-replicate {A = ℕ} 65536 0)

@@ -1,9 +1,9 @@
--- `answer::room::numbers` meets its contract. Assumes nothing.
+-- `rooms::numbers` meets its contract. Assumes nothing.
 use Prim.Native.Nat.{ℕ}
 use mathlib.Core.Path.{sym}
 use lib.ListN.{length-replicate}
-use Rattle.answer.proofs.room.numbers.Statement.{statement}
-use Rattle.answer.proofs.room.numbers.Tie as tie
+use Rattle.rooms.proofs.numbers.Statement.{statement}
+use Rattle.rooms.proofs.numbers.Tie as tie
 
 returns : tie.Need-returns
 returns c = sym (length-replicate {A = ℕ} 400000 0)

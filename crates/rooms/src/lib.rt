@@ -1,4 +1,4 @@
-// The arrays that the judge lends, each made here alone, so that whoever lends it need not count it again.
+// The arrays that a judge lends, each made here alone, so that whoever lends it need not count it again.
 ghost use mathlib.Core.Path.{_≡_};
 ghost use lib.ListN.{length};
 
@@ -16,7 +16,7 @@ pub fn line() -> [u8; 400001]
     [0; 400001]
 }
 
-// For the units of a question or of an answer.
+// For the units of a question or of an answer, or of a store, which is made over no more.
 pub fn units() -> [u16; 400000]
     ensures { λ r. ⌜ 400000 ≡ length r ⌝ }
 {

@@ -1,9 +1,9 @@
--- `answer::room::units` meets its contract. Assumes nothing.
+-- `rooms::units` meets its contract. Assumes nothing.
 use Prim.Native.Nat.{ℕ}
 use mathlib.Core.Path.{sym}
 use lib.ListN.{length-replicate}
-use Rattle.answer.proofs.room.units.Statement.{statement}
-use Rattle.answer.proofs.room.units.Tie as tie
+use Rattle.rooms.proofs.units.Statement.{statement}
+use Rattle.rooms.proofs.units.Tie as tie
 
 returns : tie.Need-returns
 returns c = sym (length-replicate {A = ℕ} 400000 0)

@@ -1,9 +1,9 @@
--- `answer::room::line` meets its contract. Assumes nothing.
+-- `rooms::line` meets its contract. Assumes nothing.
 use Prim.Native.Nat.{ℕ}
 use mathlib.Core.Path.{sym}
 use lib.ListN.{length-replicate}
-use Rattle.answer.proofs.room.line.Statement.{statement}
-use Rattle.answer.proofs.room.line.Tie as tie
+use Rattle.rooms.proofs.line.Statement.{statement}
+use Rattle.rooms.proofs.line.Tie as tie
 
 returns : tie.Need-returns
 returns c = sym (length-replicate {A = ℕ} 400001 0)

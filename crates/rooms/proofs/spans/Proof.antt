@@ -1,9 +1,9 @@
--- `answer::room::spans` meets its contract. Assumes nothing.
+-- `rooms::spans` meets its contract. Assumes nothing.
 use Prim.Native.Nat.{ℕ}
 use mathlib.Core.Path.{sym}
 use lib.ListN.{length-replicate}
-use Rattle.answer.proofs.room.spans.Statement.{statement}
-use Rattle.answer.proofs.room.spans.Tie as tie
+use Rattle.rooms.proofs.spans.Statement.{statement}
+use Rattle.rooms.proofs.spans.Tie as tie
 
 returns : tie.Need-returns
 returns c = sym (length-replicate {A = ℕ} 87376 0)
