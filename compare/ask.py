@@ -64,16 +64,21 @@ def smaller(question):
             size //= 2
 
 
-def protocol(answer):
-    """What the protocol says of lines, whatever they ask: how many bytes a question may have, and what a last line without a line feed is."""
-    longest = b'read exe ' + b'a' * (400000 - 9)
-    asked = [(b'', b''), (b'suffix a.bat', b'ok 1\n'), (b'suffix a.bat\n', b'ok 1\n'), (b'\n', b'bad\n'), (b'suffix a.bat\r\n', b'bad\n'), (b'suffix \xc3\xa9\n', b'bad\n'),
-             (longest + b'\nsuffix x\n', b'refused 2 0\nok 0\n'), (longest + b'a\nsuffix x\n', b'bad\nok 0\n'), (longest * 5 + b'\nsuffix x', b'bad\nok 0\n')]
-    wrong = [text for text, want in asked if subprocess.run(answer, input=text, capture_output=True, check=True).stdout != want]
+def protocol(program, asked):
+    """Whether the program answers these bytes as the protocol says, whatever they ask; how many times it does not."""
+    wrong = [text for text, want in asked if subprocess.run(program, input=text, capture_output=True, check=True).stdout != want]
     for text in wrong:
         print(f'DIFFERS: {len(text)} bytes that begin with {text[:40]}')
     print(f'protocol {len(asked) - len(wrong)} / {len(asked)} as the protocol says')
     return len(wrong)
+
+
+def ends():
+    """How many bytes a question may have, and what a last line without a line feed is."""
+    longest = b'read exe ' + b'a' * (400000 - 9)
+    return [(b'', b''), (b'suffix a.bat', b'ok 1\n'), (b'suffix a.bat\n', b'ok 1\n'), (b'\n', b'bad\n'), (b'suffix a.bat\r\n', b'bad\n'),
+            (b'suffix \xc3\xa9\n', b'bad\n'), (longest + b'\nsuffix x\n', b'refused 2 0\nok 0\n'), (longest + b'a\nsuffix x\n', b'bad\nok 0\n'),
+            (longest * 5 + b'\nsuffix x', b'bad\nok 0\n')]
 
 
 def report(judge, log, asked, told, answers):
@@ -107,9 +112,10 @@ def main():
     if len(answers) != len(asked):
         sys.exit(f'{len(asked)} questions, {len(answers)} answers')
     differ = report(judge, log, asked, told, answers)
-    wrong = protocol(answer)
+    wrong = protocol(answer, ends())
     print(f'seed {seed}: {len(asked) - differ} of {len(asked)} equal, {differ + wrong} differences; answer took {took:.1f} s')
     sys.exit(1 if differ + wrong else 0)
 
 
-main()
+if __name__ == '__main__':
+    main()

@@ -303,9 +303,17 @@ def units(word):
         end = word.index('}', i) + 1 if word[i] == '{' else i + 1
         out.append(int(word[i + 1:end - 1], 16) if word[i] == '{' else ord(word[i]))
         i = end
-    if shown(out) != word:
+    if shown(out) != word or max(out, default=0) > 65535:
         raise ValueError(word)
     return out
+
+
+def number(word, most):
+    """A number in its one form, at most so large, or a ValueError."""
+    n = int(word)
+    if str(n) != word or not 0 <= n <= most:
+        raise ValueError(word)
+    return n
 
 
 def lent(lend, out):
@@ -328,7 +336,7 @@ def flat(words, keyed):
             records += [len(text), len(key), len(text) + len(key), len(value)]
             text += key + value
         else:
-            records += [int(head), len(text), len(value)]
+            records += [number(head, 4294967295), len(text), len(value)]
             text += value
     return records, text
 
