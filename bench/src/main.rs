@@ -1,5 +1,6 @@
 //! Measures the Rust and this library on the same inputs, in one run, call by call in turn: the best time of many rounds, and the ratio.
 mod binding;
+mod cache;
 mod entries;
 mod inputs;
 mod ours;
@@ -125,4 +126,5 @@ fn main() {
     binding::rows();
     growth(&mut ours);
     entries::rows(&mut ours);
+    cache::rows(&mut ours);
 }

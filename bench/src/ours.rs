@@ -1,4 +1,5 @@
 //! This library by its C interface, over buffers that are made once.
+use aslapush::CACHE_WORDS;
 
 unsafe extern "C" {
     fn aslapush_parse_lp_cmd_line(
@@ -18,6 +19,16 @@ unsafe extern "C" {
     ) -> u32;
     fn aslapush_read_envp(block: *const u16, block_len: usize, spans: *mut u32, spans_len: usize, answer: *mut [u64; 4]) -> u32;
     fn aslapush_status_text(status: u32, out: *mut u16, out_len: usize, answer: *mut [u64; 4]) -> u32;
+    fn aslapush_cache_make(index: *mut [u64; CACHE_WORDS]);
+    fn aslapush_cache_clear(index: *mut [u64; CACHE_WORDS]);
+    fn aslapush_cache_lookup(
+        index: *const [u64; CACHE_WORDS], units: *const u16, units_len: usize, fingerprint: u64, program: *const u16, program_len: usize,
+        records: *const u32, records_len: usize, text: *const u16, text_len: usize, force_quotes: u32, answer: *mut [u64; 5],
+    ) -> u32;
+    fn aslapush_cache_store(
+        index: *mut [u64; CACHE_WORDS], units: *mut u16, units_len: usize, fingerprint: u64, program: *const u16, program_len: usize,
+        records: *const u32, records_len: usize, text: *const u16, text_len: usize, force_quotes: u32, answer: *mut [u64; 5],
+    ) -> u32;
 }
 
 /// Flat records and their text.
@@ -119,5 +130,51 @@ impl Buffers {
         };
         assert_eq!(number, 0);
         answer[1] as usize
+    }
+}
+
+/// A store of the launch line cache.
+pub struct Store {
+    index: [u64; CACHE_WORDS],
+    units: Vec<u16>,
+}
+
+impl Store {
+    pub fn new(units: usize) -> Store {
+        let mut store = Store { index: [0; CACHE_WORDS], units: vec![0; units] };
+        unsafe { aslapush_cache_make(&mut store.index) };
+        store
+    }
+
+    pub fn clear(&mut self) {
+        unsafe { aslapush_cache_clear(&mut self.index) }
+    }
+
+    /// The line that a call named, by its number and its answer; none where it missed.
+    fn line(&self, number: u32, answer: [u64; 5]) -> Option<&[u16]> {
+        assert_eq!(number, 0);
+        (answer[1] != 0).then(|| &self.units[answer[2] as usize..][..answer[3] as usize])
+    }
+
+    pub fn look(&self, fingerprint: u64, program: &[u16], flat: &Flat) -> Option<&[u16]> {
+        let mut answer = [0; 5];
+        let number = unsafe {
+            aslapush_cache_lookup(
+                &self.index, self.units.as_ptr(), self.units.len(), fingerprint, program.as_ptr(), program.len(), flat.records.as_ptr(),
+                flat.records.len(), flat.text.as_ptr(), flat.text.len(), 0, &mut answer,
+            )
+        };
+        self.line(number, answer)
+    }
+
+    pub fn store(&mut self, fingerprint: u64, program: &[u16], flat: &Flat) -> Option<&[u16]> {
+        let mut answer = [0; 5];
+        let number = unsafe {
+            aslapush_cache_store(
+                &mut self.index, self.units.as_mut_ptr(), self.units.len(), fingerprint, program.as_ptr(), program.len(), flat.records.as_ptr(),
+                flat.records.len(), flat.text.as_ptr(), flat.text.len(), 0, &mut answer,
+            )
+        };
+        self.line(number, answer)
     }
 }
