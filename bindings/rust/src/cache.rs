@@ -27,6 +27,17 @@ use crate::{raw, CommandLine, Refusal, CACHE_WORDS};
 /// };
 /// assert_eq!(line, list.build());
 /// ```
+///
+/// A line that is still in use keeps the cache from being changed:
+///
+/// ```compile_fail,E0499
+/// use aslapush::{wide, CommandLine, LineCache};
+///
+/// let mut cache = LineCache::new(100);
+/// let line = cache.get_or_build(1, &CommandLine::new(&wide("a"))).unwrap();
+/// cache.clear();
+/// assert_eq!(line, wide("\"a\""));
+/// ```
 #[derive(Debug, Clone)]
 pub struct LineCache {
     index: Box<[u64; CACHE_WORDS]>,
