@@ -24,7 +24,6 @@ looked-requires c κs = search needs
 returns : tie.Need-returns
 returns c =
     let at-shared-slice-known2 = c .before .before .before .before .before .before in
-    let at-shared-slice-known2 = at-shared-slice-known2 in
     let at-entry = at-shared-slice-known2 .before .before in
     let s = at-entry .args in
     let lent = launch (s .force-quotes) (s .program .now) (s .records .now) (s .text .now) in
@@ -34,7 +33,6 @@ returns-2 : tie.Need-returns-2
 unfolding cachePlaces
 returns-2 c =
     let at-first-fault = c .before .before .before .before .before in
-    let at-first-fault = at-first-fault in
     let at-entry = at-first-fault .before .before .before .before .before in
     let s = at-entry .args in
     let lent = launch (s .force-quotes) (s .program .now) (s .records .now) (s .text .now) in

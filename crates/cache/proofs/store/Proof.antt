@@ -15,7 +15,6 @@ enum-known-place c = search needs
 returns : tie.Need-returns
 returns c =
     let at-shared-slice-known = c .before .before .before .before .before .before in
-    let at-shared-slice-known = at-shared-slice-known in
     let at-entry = at-shared-slice-known .before .before in
     let s = at-entry .args in
     let lent = launch (s .force-quotes) (s .program .now) (s .records .now) (s .text .now) in
@@ -43,7 +42,6 @@ returns-2 : tie.Need-returns-2
 unfolding cachePlaces
 returns-2 c =
     let at-find-arg = c .before .before .before .before .before .before in
-    let at-find-arg = at-find-arg in
     let at-enum-told = at-find-arg .before in
     let at-first-fault = at-enum-told .before .before in
     let at-entry = at-first-fault .before .before .before .before .before in
@@ -58,7 +56,6 @@ returns-3 : tie.Need-returns-3
 unfolding cachePlaces
 returns-3 c =
     let at-enum-told2 = c .before .before .before .before .before in
-    let at-enum-told2 = at-enum-told2 in
     let at-find = at-enum-told2 .before .before in
     let at-first-fault = at-find .before .before .before .before .before .before in
     let at-entry = at-first-fault .before .before .before .before .before in

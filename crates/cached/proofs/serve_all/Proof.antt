@@ -27,19 +27,21 @@ slice-aggregate-serve c =
 
 loop-less : tie.Need-loop-less Inv-loop μ-loop
 loop-less c =
-    let at-state = c .before .before .before .before .before .before .before in
-    let at-serve = at-state .before .before .before .before .before .before .before .before .before .before in
-    let at-if1 = at-serve .before .before .before .before .before .before .before in
-    let at-next-line = at-if1 .before .before .before .before .before in
+    let at-show-arg = c .before .before .before .before .before .before in
+    let at-units = at-show-arg .before .before .before .before .before .before in
+    let at-serve = at-units .before .before .before .before .before in
+    let at-serve-arg = at-serve .before .before .before .before .before .before in
+    let at-next-line = at-serve-arg .before .before .before .before .before .before in
     let at-loop-test = at-next-line .before .before .before .before in
     omega (arith, at-loop-test .loop-test .taken)
 
 loop-again : tie.Need-loop-again Inv-loop μ-loop
 loop-again c =
-    let at-state = c .before .before .before .before .before .before .before in
-    let at-serve = at-state .before .before .before .before .before .before .before .before .before .before in
-    let at-if1 = at-serve .before .before .before .before .before .before .before in
-    let at-next-line = at-if1 .before .before .before .before .before in
+    let at-show-arg = c .before .before .before .before .before .before in
+    let at-units = at-show-arg .before .before .before .before .before .before in
+    let at-serve = at-units .before .before .before .before .before in
+    let at-serve-arg = at-serve .before .before .before .before .before .before in
+    let at-next-line = at-serve-arg .before .before .before .before .before .before in
     let at-loop = at-next-line .before .before .before .before .before in
     let kept = at-loop .loop .inv .0 in
     let next = at-next-line .next-line in

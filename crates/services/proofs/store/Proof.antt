@@ -6,7 +6,6 @@ use Rattle.services.proofs.store.Tie as tie
 returns : tie.Need-returns
 returns c =
     let at-store = c .before .before .before .before .before .before in
-    let at-store = at-store in
     let at-rest-from = at-store .before .before .before in
     let at-text-at = at-rest-from .before in
     let at-number-at = at-text-at .before in
