@@ -8,7 +8,7 @@ use rules::{Arg, Refusal};
 use units::{kinds, parts};
 
 // What a record makes of the units so far: so many now, or a refusal.
-#[derive(Drop)]
+#[derive(Clone, Copy)]
 pub enum Progress {
     On(usize),
     Stopped(Refusal),

@@ -1,4 +1,6 @@
 // Answers the questions of standard input, one a line, each by one line of standard output, in order.
+#![tactic(auto)]
+
 ghost use Rattle.std.specs.Prelude.{◌<◌, length};
 
 use dialogue::{begin, next_line, show};

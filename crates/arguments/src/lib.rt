@@ -1,4 +1,6 @@
 // One argument from the rest of a line: argument 0, and a later one.
+#![tactic(auto)]
+
 mod runs;
 mod steps;
 
@@ -9,7 +11,7 @@ use steps::{Point, read_step};
 use stores::copy_run;
 
 // How many units of the line an argument takes, with the blank that ends it, and how many it has.
-#[derive(Drop)]
+#[derive(Clone, Copy)]
 pub struct Took {
     pub used: usize,
     pub units: usize,

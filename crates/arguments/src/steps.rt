@@ -8,7 +8,7 @@ use scans::backslashes;
 use stores::{copy_run, put, repeat};
 
 // Where a reader stands: how many units of the rest are used, how many of the argument are written, and whether quoted mode is on.
-#[derive(Drop)]
+#[derive(Clone, Copy)]
 pub struct Point {
     pub used: usize,
     pub units: usize,

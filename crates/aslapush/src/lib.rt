@@ -1,4 +1,6 @@
 // The C interface: one exported function for each entry point, over integers, slices and fixed arrays alone. include/aslapush.h says it for C.
+#![tactic(auto)]
+
 mod answers;
 
 ghost use Rattle.std.specs.Prelude.{◌≡◌, length};

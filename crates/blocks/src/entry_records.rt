@@ -3,7 +3,7 @@ ghost use Rattle.std.specs.Prelude.{◌≡◌, ◌+◌, ◌≤◌, length};
 ghost use Rattle.blocks.specs.Entries.{ruled, numbered};
 
 // Where a key and its value lie in the lent text.
-#[derive(Drop)]
+#[derive(Clone, Copy)]
 pub struct EntryRecord {
     pub key_start: u32,
     pub key_len: u32,

@@ -1,4 +1,6 @@
 // Environment blocks from flat records of keys and values in a lent text.
+#![tactic(auto)]
+
 ghost use Rattle.std.specs.Prelude.{length};
 ghost use Rattle.rules.specs.Answer.{Answered, filled_said};
 ghost use Rattle.rules.specs.Block.{environment_block};

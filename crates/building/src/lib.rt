@@ -1,4 +1,6 @@
 // Command lines from lists of arguments: ordinary lines and batch lines.
+#![tactic(auto)]
+
 ghost use Rattle.std.specs.Prelude.{length};
 ghost use Rattle.rules.specs.Answer.{Answered, built_said};
 ghost use Rattle.rules.specs.Building.{command_line, batch_command_line};

@@ -9,7 +9,7 @@ use rules::{Built, Refusal};
 use units::refusals;
 
 // What a pass does with each record: judge the record; judge the units that it names, and count the most that they can take; count its form; write it.
-#[derive(Drop)]
+#[derive(Clone, Copy)]
 pub enum Pass {
     Records,
     Units,
@@ -19,7 +19,7 @@ pub enum Pass {
 
 // Where building stands: the pass, the units that it has counted, how many records it has taken; and, once it does not go on, the units of the line or
 // the refusal, by number and place. Its enum is not carried along: the padding of it would be copied at every turn, at the cost of half the speed.
-#[derive(Drop)]
+#[derive(Clone, Copy)]
 pub struct Work {
     pub count: usize,
     pub units: usize,

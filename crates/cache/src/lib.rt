@@ -1,4 +1,6 @@
 // The launch line cache: prepared lines in lent memory, found again by fingerprint and key.
+#![tactic(auto)]
+
 ghost use Rattle.std.specs.Prelude.{◌≡◌, ◌≤◌, length};
 ghost use Rattle.rules.specs.Record.{part};
 ghost use Rattle.rules.specs.Key.{launch};

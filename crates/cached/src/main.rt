@@ -1,4 +1,6 @@
 // Answers the calls of standard input, one a line, each by one line of standard output, in order, over one store.
+#![tactic(auto)]
+
 ghost use Rattle.std.specs.Prelude.{◌<◌, length};
 
 use cache::WORDS;

@@ -1,4 +1,6 @@
 // The commands that build no line, one function each.
+#![tactic(auto)]
+
 use blocks::{BLOCK_LIMIT, make_envp};
 use console::messages::{block_refused, status_refused};
 use console::reports::say;

@@ -1,4 +1,6 @@
 // The kinds of example: each runs an entry point on small lent memory and compares what comes out with what is stated.
+#![tactic(auto)]
+
 ghost use Rattle.std.specs.Prelude.{◌≤◌, length};
 
 use octets::widen;

@@ -1,4 +1,6 @@
 // Runs of lent units compared: few one by one, more by eights, many by long parts.
+#![tactic(auto)]
+
 ghost use Rattle.std.specs.Prelude.{◌≡◌, ◌+◌, ◌≤◌, length};
 ghost use Rattle.rules.specs.Choice.{equal};
 ghost use Rattle.rules.specs.Record.{part};

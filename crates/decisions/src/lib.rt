@@ -1,4 +1,6 @@
 // Whether an argument stands in quotes, by the classes of its units.
+#![tactic(auto)]
+
 ghost use Rattle.std.specs.Prelude.{◌≡◌};
 ghost use Rattle.rules.specs.Choice.{either, any};
 ghost use Rattle.rules.specs.Quoting.{needs_quotes};

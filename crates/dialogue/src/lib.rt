@@ -1,4 +1,6 @@
 // A program's dialogue by lines: the lines of standard input one after another, and an answer to each on standard output.
+#![tactic(auto)]
+
 ghost use Rattle.std.specs.Prelude.{◌≤◌, ◌<◌, length};
 ghost use Rattle.dialogue.specs.Turn.{Fits, Gathered};
 
@@ -7,7 +9,7 @@ use replies::places::Place;
 
 // Where a dialogue stands: the bytes of the chunk that was read last which are still to be taken, how many bytes the line has, whether it is whole, and
 // how many bytes of the piece are taken by answers.
-#[derive(Drop)]
+#[derive(Clone, Copy)]
 pub struct Turn {
     pub from: usize,
     pub end: usize,

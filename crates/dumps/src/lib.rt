@@ -1,4 +1,6 @@
 // A dump of units: its bytes from a file or from standard input, and the units that they stand for.
+#![tactic(auto)]
+
 ghost use Rattle.std.specs.Prelude.{◌≡◌, ◌+◌, ◌*◌, ◌≤◌, length};
 ghost use Rattle.std.proofs.lemmas.List.Edits.{sets};
 ghost use Rattle.dumps.specs.Dumped.{dumped};
@@ -7,7 +9,7 @@ use octets::same;
 use stores::put;
 
 // How many bytes were read, and 0 or the system's number for what went wrong.
-#[derive(Drop)]
+#[derive(Clone, Copy)]
 pub struct Got {
     pub bytes: usize,
     pub error: i32,

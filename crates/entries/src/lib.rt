@@ -1,4 +1,6 @@
 // The entries of an environment block: the spans of keys and values in the lent block itself, into a lent table.
+#![tactic(auto)]
+
 ghost use Rattle.std.specs.Prelude.{◌≤◌, length};
 ghost use Rattle.rules.specs.Answer.{Listing};
 ghost use Rattle.rules.specs.Block.{block_limit};

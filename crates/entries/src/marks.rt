@@ -6,7 +6,7 @@ ghost use Rattle.entries.specs.Measured.{Measured};
 use scans::{find_near, find_nul};
 
 // How many units key and value of an entry have. No units of key say that no good entry stands there: a good one has some.
-#[derive(Drop)]
+#[derive(Clone, Copy)]
 pub struct Sizes {
     pub key: usize,
     pub value: usize,

@@ -9,7 +9,7 @@ use crate::marks::measure_entry;
 use stores::put_number;
 
 // The number of the first bad entry, counted from 1, or 0 where there is none; how many entries there are, and how many units they take with the final NUL.
-#[derive(Drop)]
+#[derive(Clone, Copy)]
 pub struct Tally {
     pub bad: usize,
     pub count: usize,

@@ -1,6 +1,8 @@
 // Runs the document's unmarked examples, its "Errors easily made", and Microsoft's published examples, and says of each whether it came out as stated.
 // The two tables are those of "Parsing C command-line arguments" (C language) and of "main function and command-line arguments" (C++), each behind a
 // program name of ours. Last come lines that are built from a slice of records.
+#![tactic(auto)]
+
 mod listed;
 
 use cases::{batch_refused, batches, bounds, limit, reads, unchanged, writes};

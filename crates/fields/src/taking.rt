@@ -7,14 +7,14 @@ use forms::numbers::{Number, number_of};
 use forms::texts::{Filling, take_text};
 
 // How many units and how many numbers are held.
-#[derive(Drop)]
+#[derive(Clone, Copy)]
 pub struct Held {
     pub units: usize,
     pub count: usize,
 }
 
 // What is held with more behind it, or that this is not in its form.
-#[derive(Drop)]
+#[derive(Clone, Copy)]
 pub enum Holding {
     Is(Held),
     Ill,
@@ -22,7 +22,7 @@ pub enum Holding {
 
 // A field: a number of 32 bits that is at most so large, which takes one number of the table; one of 64 bits, which takes two, the low half first; or a
 // text, which takes two, its start and its length. In a text a colon stands for itself where it is so said.
-#[derive(Drop)]
+#[derive(Clone, Copy)]
 pub enum Field {
     Count(u32),
     Wide,

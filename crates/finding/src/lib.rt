@@ -1,4 +1,6 @@
 // An entry of a store found by fingerprint and key. What the words of an index say is clipped to what is lent, so that no content leads out of it.
+#![tactic(auto)]
+
 ghost use Rattle.std.specs.Prelude.{◌≡◌, ◌+◌, ◌*◌, ◌≤◌, length};
 ghost use Rattle.rules.specs.Record.{arguments_of};
 ghost use Rattle.rules.specs.Key.{launch};
@@ -9,7 +11,7 @@ use keys::matching::is_key;
 use units::parts;
 
 // Where the line of an entry stands in the units of a store, or that none was found.
-#[derive(Drop)]
+#[derive(Clone, Copy)]
 pub enum Found {
     There { start: usize, units: usize },
     Nowhere,

@@ -3,7 +3,7 @@ ghost use Rattle.std.specs.Prelude.{◌≡◌};
 ghost use Rattle.forms.specs.Form.{is_plain, hex_value, step_of, step_outside, step_opened, step_inside};
 
 // Where a reader of a form stands: between two units, behind a `{`, or behind digits, with their value.
-#[derive(Drop)]
+#[derive(Clone, Copy)]
 pub enum Spot {
     Outside,
     Opened,
@@ -11,7 +11,7 @@ pub enum Spot {
 }
 
 // What the next byte comes to: a unit is whole, the form goes on, or it is no form.
-#[derive(Drop)]
+#[derive(Clone, Copy)]
 pub enum Step {
     Unit(u16),
     Still(Spot),

@@ -5,7 +5,7 @@ ghost use Rattle.forms.specs.Text.{Filled, each_of, is_braces, text_of};
 use crate::steps::{Spot, Step, take_byte};
 
 // How many units were put, or that the word is not in its form.
-#[derive(Drop)]
+#[derive(Clone, Copy)]
 pub enum Filling {
     Units(usize),
     Ill,

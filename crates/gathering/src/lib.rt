@@ -1,4 +1,6 @@
 // The words of the call, taken from UTF-8 into one text, with a record for each.
+#![tactic(auto)]
+
 ghost use Rattle.std.specs.Prelude.{◌≡◌, ◌+◌, ◌<◌, ◌≤◌, ◌^◌, true, length};
 
 use console::reports::{no_entry, no_room, no_utf8, say, say_error};
@@ -8,14 +10,14 @@ use terminal::utf8::decode;
 use terminal::words::{is_force, key_length, put_span};
 
 // How many units a word gave; where it is not fine, that was said.
-#[derive(Drop)]
+#[derive(Clone, Copy)]
 pub struct Took {
     pub fine: bool,
     pub units: usize,
 }
 
 // How far words are gathered: the units in the text, and the numbers of their records. Where it is not fine, that was said.
-#[derive(Drop)]
+#[derive(Clone, Copy)]
 pub struct Spot {
     pub fine: bool,
     pub at: usize,
@@ -24,7 +26,7 @@ pub struct Spot {
 
 // A call with a program or a script and its arguments: whether quotes are forced, the units of the program, which the text begins with, and
 // the numbers of the arguments' records. Where it is not fine, that was said.
-#[derive(Drop)]
+#[derive(Clone, Copy)]
 pub struct Call {
     pub fine: bool,
     pub force: bool,

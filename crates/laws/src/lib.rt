@@ -1,1 +1,2 @@
 // Laws that several proofs cite: see specs/. No code.
+#![tactic(auto)]

@@ -1,4 +1,6 @@
 // A tool for a person at a terminal: command lines, batch lines and environment blocks for Windows processes, written and read.
+#![tactic(auto)]
+
 mod writing;
 
 use console::reports::say;

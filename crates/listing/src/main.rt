@@ -1,4 +1,6 @@
 // The tool's command `entries`, a program of its own: the entries of an environment block, from a dump of its units.
+#![tactic(auto)]
+
 ghost use Rattle.std.specs.Prelude.{◌≤◌, length};
 
 use console::messages::block_unread;

@@ -1,4 +1,6 @@
 // The second set of questions, in which the asker gives all that is lent.
+#![tactic(auto)]
+
 ghost use Rattle.std.specs.Prelude.{◌≡◌, min, length};
 ghost use Rattle.std.proofs.lemmas.List.Edits.{sets};
 

@@ -1,4 +1,6 @@
 // The program or script that a line starts with, what stands before the arguments, and the test for a batch suffix.
+#![tactic(auto)]
+
 ghost use Rattle.std.specs.Prelude.{◌≡◌};
 ghost use Rattle.rules.specs.Choice.{both};
 ghost use Rattle.rules.specs.Building.{is_no_script, script_of};

@@ -1,4 +1,6 @@
 // Bytes, as programs read and write them: runs compared and searched, and stores into lent bytes. What has no room is skipped.
+#![tactic(auto)]
+
 ghost use Rattle.std.specs.Prelude.{◌≡◌, ◌+◌, ◌<◌, ◌^◌, min, eqb, length, set};
 ghost use Rattle.std.proofs.lemmas.List.Edits.{sets};
 ghost use Rattle.laws.specs.Scan.{before};

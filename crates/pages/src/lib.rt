@@ -1,4 +1,6 @@
 // Bytes and units of small texts: what has no room is cut, and an example that is cut does not come out as stated.
+#![tactic(auto)]
+
 ghost use Rattle.std.specs.Prelude.{◌≤◌, length};
 
 use libc::STDOUT_FILENO;

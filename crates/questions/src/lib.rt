@@ -1,4 +1,6 @@
 // The questions: the table with a row for each, in the order of the functions that answer them.
+#![tactic(auto)]
+
 use replies::answers::{Answer, Word};
 use sayings::brief;
 use words::lines::{Line, take_line};

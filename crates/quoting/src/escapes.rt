@@ -9,14 +9,14 @@ use crate::marks;
 use units::parts;
 
 // How a regular argument is written.
-#[derive(Drop)]
+#[derive(Clone, Copy)]
 pub struct Shape {
     pub quoted: bool,
     pub batch: bool,
 }
 
 // A place in the output, and how many backslashes of the argument stand right before it.
-#[derive(Drop)]
+#[derive(Clone, Copy)]
 struct Spot {
     to: usize,
     k: usize,

@@ -1,4 +1,6 @@
 // The form of one argument, ordinary and batch. One routine measures and writes: what has no room is counted and not stored.
+#![tactic(auto)]
+
 ghost use Rattle.std.specs.Prelude.{◌≡◌, ◌<◌, length};
 ghost use Rattle.rules.specs.Quoting.{form};
 ghost use Rattle.rules.specs.Batch.{batch_form};

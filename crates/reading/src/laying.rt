@@ -12,7 +12,7 @@ use stores::{copy_run, put_number};
 use units::parts::smaller;
 
 // How many arguments a line has, and how many units their texts.
-#[derive(Drop)]
+#[derive(Clone, Copy)]
 pub struct Sizes {
     pub count: usize,
     pub units: usize,

@@ -1,4 +1,6 @@
 // Reading a line: its arguments' texts into lent units and their spans into a lent table; and the part of one argument.
+#![tactic(auto)]
+
 mod laying;
 
 ghost use Rattle.std.specs.Prelude.{◌≡◌, ◌≤◌, length, eqb};
@@ -87,7 +89,7 @@ pub fn parse_lp_cmd_line(
 }
 
 // Where a part lies in the caller's text.
-#[derive(Drop)]
+#[derive(Clone, Copy)]
 pub struct Span {
     pub start: usize,
     pub len: usize,

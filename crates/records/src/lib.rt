@@ -1,4 +1,6 @@
 // Argument records in a flat list of numbers, and the first of them that is at fault.
+#![tactic(auto)]
+
 ghost use Rattle.std.specs.Prelude.{◌≡◌, get_or};
 ghost use Rattle.rules.specs.Record.{argument_fault};
 ghost use Rattle.records.specs.Records.{is_wrong, records_of, no_arg, verdict_fault};
@@ -7,7 +9,7 @@ use rules::Arg;
 use units::kinds;
 
 // What is found of a list of records: all are sound, or the place of the first that is wrong by 1.
-#[derive(Drop)]
+#[derive(Clone, Copy)]
 pub enum Verdict {
     Sound,
     Wrong(usize),

@@ -9,7 +9,7 @@ use crate::shows::{put_number, put_text};
 use units::parts::{part_of, smaller};
 
 // The word that an answer begins with.
-#[derive(Drop)]
+#[derive(Clone, Copy)]
 pub enum Word {
     Bad,
     Ok,
@@ -21,7 +21,7 @@ pub enum Word {
 }
 
 // What a text is: one of its own, or the key or the value of an entry, in which a colon is `{3a}`.
-#[derive(Drop)]
+#[derive(Clone, Copy)]
 pub enum Manner {
     Text,
     Key,
@@ -29,7 +29,7 @@ pub enum Manner {
 }
 
 // An answer over lent units, a span table and a table of numbers.
-#[derive(Drop)]
+#[derive(Clone, Copy)]
 pub struct Answer {
     pub word: Word,
     // How many of the two numbers stand behind the word.

@@ -4,7 +4,7 @@ ghost use Rattle.std.specs.Prelude.{[], ◌∷◌};
 ghost use Rattle.replies.specs.Page.{Puts};
 
 // How many bytes are still to be skipped, and where the next one goes.
-#[derive(Drop)]
+#[derive(Clone, Copy)]
 pub struct Place {
     pub skip: usize,
     pub at: usize,

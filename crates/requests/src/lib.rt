@@ -1,4 +1,6 @@
 // The first set of questions, for which the records are made here and room enough is lent.
+#![tactic(auto)]
+
 ghost use Rattle.std.specs.Prelude.{◌≡◌, eqb, length, get_or, drop, nat_abs};
 ghost use Rattle.rules.specs.Record.{part};
 ghost use Rattle.rules.specs.Building.{either_line};

@@ -1,4 +1,6 @@
 // The arrays that a judge lends, each made here alone, so that whoever lends it need not count it again.
+#![tactic(auto)]
+
 ghost use Rattle.std.specs.Prelude.{◌≡◌, length};
 
 // For a piece of input or of output.

@@ -1,4 +1,6 @@
 // What an entry point said, as an answer: `ok` or a word of the cache with numbers and texts, or `refused` with the number and the place.
+#![tactic(auto)]
+
 ghost use Rattle.std.specs.Prelude.{◌≡◌, ◌*◌, min};
 ghost use Rattle.std.proofs.lemmas.List.Edits.{sets};
 ghost use Rattle.rules.specs.Answer.{built_said, filled_said, gave, listed_said, parsed_said, refusal_said};
@@ -13,7 +15,7 @@ use units::parts::smaller;
 use units::refusals::{number_of, place_of};
 
 // What an entry point said, in numbers: the refusal's, or 0 and the counts.
-#[derive(Drop)]
+#[derive(Clone, Copy)]
 pub struct Saying {
     pub number: u64,
     pub place: u64,

@@ -1,4 +1,6 @@
 // Scans over lent units. Each is a leaf with a final contract, so that it can be made faster with nothing above it changed.
+#![tactic(auto)]
+
 ghost use Rattle.std.specs.Prelude.{◌≡◌, ◌+◌, ◌≤◌, length};
 ghost use Rattle.rules.specs.Choice.{any, flip};
 ghost use Rattle.rules.specs.Record.{part};

@@ -1,4 +1,6 @@
 // The calls to a store of prepared lines: the table with a row for each, and the functions that answer them.
+#![tactic(auto)]
+
 ghost use Rattle.std.specs.Prelude.{◌≤◌, ◌≡◌, length};
 ghost use Rattle.rules.specs.Cache.{cache_places};
 ghost use Rattle.rules.specs.Store.{LooksUp, Stores};
@@ -19,14 +21,14 @@ const ROWS: [[u8; 20]; 4] = [
 ];
 
 // What is known of the store beside its memory: whether one was made, and over how many of the lent units.
-#[derive(Drop)]
+#[derive(Clone, Copy)]
 pub struct State {
     pub made: bool,
     pub units: usize,
 }
 
 // What a call is answered, and the state behind it.
-#[derive(Drop)]
+#[derive(Clone, Copy)]
 pub struct Service {
     pub answer: Answer,
     pub state: State,

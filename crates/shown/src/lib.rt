@@ -1,4 +1,6 @@
 // Units as they are shown at a terminal: characters that can be seen as UTF-8, every other unit as `{hex}`.
+#![tactic(auto)]
+
 ghost use Rattle.std.specs.Prelude.{◌≡◌, ◌+◌, ◌%◌, ◌<◌, ◌≤◌, ◌^◌};
 ghost use Rattle.rules.specs.Unit.{within};
 ghost use Rattle.laws.specs.Placed.{Placed};

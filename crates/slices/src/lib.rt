@@ -1,4 +1,6 @@
 // Command lines from a slice of records: the entries over `&[Arg]`, whose answers are those of the flat entries on the records' numbers.
+#![tactic(auto)]
+
 ghost use Rattle.std.specs.Prelude.{length};
 ghost use Rattle.rules.specs.Answer.{Answered, built_said};
 ghost use Rattle.rules.specs.Building.{command_line, batch_command_line, either_line};

@@ -1,4 +1,6 @@
 // The recorded status of a finished child process: its text and its signed code.
+#![tactic(auto)]
+
 ghost use Rattle.std.specs.Prelude.{◌≡◌, ◌++◌, ◌<◌, ◌≤◌, length};
 ghost use Rattle.rules.specs.Answer.{Answered, filled_said};
 ghost use Rattle.rules.specs.Status.{glyph, status_outcome, signed_code};

@@ -1,4 +1,6 @@
 // One entry more in a store. The line is built straight into its place, and only then are key and words written: a refusal has changed nothing.
+#![tactic(auto)]
+
 ghost use Rattle.std.specs.Prelude.{◌≡◌, ◌∷◌, [], ◌+◌, ◌*◌, ◌≤◌, ◌<◌, length};
 ghost use Rattle.std.proofs.lemmas.List.Edits.{sets};
 ghost use Rattle.rules.specs.Choice.{pick};

@@ -4,14 +4,14 @@ ghost use Rattle.rules.specs.Unit.{is_digit};
 ghost use Rattle.terminal.specs.Number.{number_of, signed_of};
 
 // A number of 32 bits, or none.
-#[derive(Drop)]
+#[derive(Clone, Copy)]
 pub enum Number {
     Is(u32),
     Not,
 }
 
 // A signed number by its sign and its size.
-#[derive(Drop)]
+#[derive(Clone, Copy)]
 pub struct Signed {
     pub negative: bool,
     pub size: u64,

@@ -7,7 +7,7 @@ ghost use Rattle.terminal.specs.Utf8.{lead_of, are_tails, is_whole, value_of, sc
 use stores::put;
 
 // A row of the table, for a first byte: how many bytes the sequence has, 0 where none begins so, and the range of its second byte.
-#[derive(Drop)]
+#[derive(Clone, Copy)]
 pub struct Lead {
     pub count: usize,
     pub least: u8,
@@ -15,14 +15,14 @@ pub struct Lead {
 }
 
 // The character that bytes begin with, and how many of them are its: 0 where they begin with no well-formed sequence.
-#[derive(Drop)]
+#[derive(Clone, Copy)]
 pub struct Scalar {
     pub value: u32,
     pub bytes: usize,
 }
 
 // How many bytes were read, and how many units they gave. Fewer than all: the next one begins no well-formed sequence.
-#[derive(Drop)]
+#[derive(Clone, Copy)]
 pub struct Taken {
     pub bytes: usize,
     pub units: usize,

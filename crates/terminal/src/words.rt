@@ -9,7 +9,7 @@ use scans::find_near;
 use stores::put_number;
 
 // What a call asks for.
-#[derive(Drop)]
+#[derive(Clone, Copy)]
 pub enum Command {
     Read,
     Write,

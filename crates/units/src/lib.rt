@@ -1,4 +1,6 @@
 // Units: their classes, the kinds of argument records, parts of a lent text, and a refusal's number and place.
+#![tactic(auto)]
+
 pub mod classes;
 pub mod kinds;
 pub mod parts;

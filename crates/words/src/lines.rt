@@ -15,7 +15,7 @@ use units::parts::smaller;
 const LONGEST: usize = 400000;
 
 // What a line is: words by the row with this index, or none.
-#[derive(Drop)]
+#[derive(Clone, Copy)]
 pub enum Line {
     By(usize, Held),
     Bad,

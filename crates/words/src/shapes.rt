@@ -9,7 +9,7 @@ use octets::find;
 use units::parts::smaller;
 
 // What a word is.
-#[derive(Drop)]
+#[derive(Clone, Copy)]
 pub enum Shape {
     One(Field),
     Two(Field, Field),

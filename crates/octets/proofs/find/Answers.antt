@@ -1,0 +1,20 @@
+-- `octets::find` meets its contract. Assumes nothing.
+use lib.Dec.{eqb}
+use lib.ListN.{length}
+use Prim.Native.Nat.{◌-◌}
+use borrow.Author.Tests.{eq-eqb, ne_eqb}
+use Rattle.rules.specs.Choice.{flip}
+use Rattle.laws.specs.Scan.{Passed, all_passed, none_passed, one_more, stopped}
+use Rattle.octets.proofs.find.Goals as goal
+
+pub loop-i-init : goal.loop-i-init
+loop-i-init c = none_passed _ _
+
+pub returns-then-bytes-i : goal.returns-then-bytes-i
+returns-then-bytes-i c = stopped _ _ _ c.loop-i.invariant c.loop-i-test.true (rw (eq-eqb _ _ c.if-bytes-i.true))
+
+pub loop-i-preserved : goal.loop-i-preserved
+loop-i-preserved c = one_more _ _ _ c.loop-i.invariant c.loop-i-test.true (rw (ne_eqb _ _ c.if-bytes-i.false))
+
+pub returns : goal.returns
+returns c = all_passed _ _ _ c.loop-i.invariant c.loop-i-test.false

@@ -1,0 +1,12 @@
+-- The invariant and the measure of `octets::same`. Assumes nothing.
+use Prim.Native.Nat.{◌-◌}
+use lib.ListN.{length}
+use mathlib.Core.Path.{sym}
+use Rattle.laws.specs.Equal.{Comparing, all_same, none_compared, one_differs, one_same, unequal}
+use Rattle.octets.proofs.same.Given as goal
+
+abbrev pub invariant-loop-i : goal.invariant-loop-i
+invariant-loop-i l = Comparing l.a l.b l.i
+
+abbrev pub decreases-loop-i : goal.decreases-loop-i
+decreases-loop-i l = length l.a - l.i

@@ -1,0 +1,13 @@
+-- The invariant and the measure of `scans::find_slowly`. Assumes nothing.
+use Prim.Native.Nat.{◌-◌}
+use mathlib.Core.Path.{◌∙◌, sym}
+use lib.ListN.{length}
+use Rattle.rules.specs.Choice.{flip}
+use Rattle.laws.specs.Scan.{Passed, all_passed, is_one_of, none_passed, one_more, stopped}
+use Rattle.scans.proofs.find_slowly.Given as goal
+
+abbrev pub invariant-loop-i : goal.invariant-loop-i
+invariant-loop-i l = Passed (λ x. flip (is_one_of l.a l.b l.c l.d x)) l.units l.i
+
+abbrev pub decreases-loop-i : goal.decreases-loop-i
+decreases-loop-i l = length l.units - l.i

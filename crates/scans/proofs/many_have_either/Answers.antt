@@ -1,0 +1,25 @@
+-- `scans::many_have_either` meets its contract. Assumes nothing.
+use Prim.Native.Nat.{◌+◌, ◌-◌}
+use mathlib.Core.Path.{◌∙◌, ◌≡◌, refl, sym}
+use Rattle.laws.specs.Any.{Open, back, last_part, part_none, part_one}
+use Rattle.laws.specs.Scan.{is_either}
+use lib.ListN.{length}
+use borrow.Author.Rules.{rules}
+use Rattle.scans.proofs.many_have_either.Goals as goal
+
+pub loop-i-init : goal.loop-i-init
+loop-i-init c = refl
+
+pub returns-then-eight_have_either : goal.returns-then-eight_have_either
+returns-then-eight_have_either c = let s = c.args in part_one (is_either s.a s.b) s.units.now c.loop-i.i 8 (sym c.eight_have_either.ensures ∙ c.if-eight_have_either.true)
+
+pub loop-i-preserved : goal.loop-i-preserved
+loop-i-preserved c = let s = c.args in part_none (is_either s.a s.b) s.units.now c.loop-i.i 8 c.loop-i.invariant (sym c.eight_have_either.ensures ∙ c.if-eight_have_either.false)
+
+pub returns : goal.returns
+returns c =
+    let s = c.args in
+    let xs = s.units.now in
+    let last = length xs - 8 in
+    let e : last + 8 ≡ length xs = search rules in
+    c.eight_have_either-2.ensures ∙ rw (last_part xs last 8 e) (back (is_either s.a s.b) xs c.loop-i.i last c.loop-i.invariant c.loop-i-test.false)

@@ -1,0 +1,12 @@
+-- The invariant and the measure of `stores::copy_slowly`. Assumes nothing.
+use Prim.Native.Nat.{◌-◌}
+use native.Mathlib.Nat.{add-zero}
+use mathlib.Core.Path.{refl}
+use Rattle.stores.proofs.Clip.{Storing, stored_one, all_stored}
+use Rattle.stores.proofs.copy_slowly.Given as goal
+
+abbrev pub invariant-loop-i : goal.invariant-loop-i
+invariant-loop-i l = Storing l.n l.at l.run l.initial.out l.out l.i
+
+abbrev pub decreases-loop-i : goal.decreases-loop-i
+decreases-loop-i l = l.n - l.i
