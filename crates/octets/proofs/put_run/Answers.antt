@@ -19,7 +19,7 @@ loop-i-preserved c =
     let at = c.args.at in
     let turn = copy_turn l.out (at + l.i) l.i _ c.loop-i-test.true in
     let next : at + (l.i + 1) ≡ at + l.i + 1 = omega arith in
-    (omega arith, c.put_byte.auto.0 ∙ l.invariant.1, rw (next, c.put_byte.ensures) (sym turn ∙ l.invariant.2))
+    (omega arith, c.put_byte.auto.out ∙ l.invariant.1, rw (next, c.put_byte.ensures) (sym turn ∙ l.invariant.2))
 
 pub shape_of-out : goal.shape_of-out
 shape_of-out c = c.loop-i.invariant.1
