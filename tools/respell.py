@@ -17,7 +17,7 @@ CRATES = os.path.join(ROOT, 'crates')
 
 # A name in antt ends at a bracket, a comma, a semicolon, a dot or a blank.
 TOKEN = re.compile(r"[^\s(){}\[\],;.`\"]+")
-DECLARES = re.compile(r"^(\s*)((?:abbrev |unfoldable |pub )*)([^\s:(){}.,;]+)\s+:\s")
+DECLARES = re.compile(r"^(\s*)((?:abbrev |unfoldable |pub )*)([^\s:(){}.,;]+(?: [^\s:(){}.,;]+)*)\s+:\s")
 HEAD = re.compile(r"^(\s*)(?:pub )?(record|data)\s+([^\s:(){}]+)")
 MODULE = re.compile(r"^\s*(?:ghost )?use\s+Rattle\.([a-z_0-9]+)\.(specs|proofs)((?:\.[^\s.{};]+)*)(?: as (\S+))?;?\s*$", re.M)
 IMPORT = re.compile(r"^\s*(?:ghost )?use\s+Rattle\.([a-z_0-9]+)\.(specs|proofs)((?:\.[^\s.{};]+)*)\.\{([^}]*)\}", re.M)
@@ -71,21 +71,24 @@ def declared(text):
         if inside and indent <= inside[1]:
             inside = None
         found = DECLARES.match(line)
-        if not found or found.group(3) in NO_NAMES:
+        several = found.group(3).split(' ') if found else []
+        if not several or several[0] in NO_NAMES:
             continue
-        (fields if inside and inside[0] == 'record' else names).append(found.group(3))
+        (fields if inside and inside[0] == 'record' else names).extend(several)
     return names, fields
 
 
 def is_goal(text, name):
-    return re.search(r"^%s : (tie|goal)\." % re.escape(name), text, re.M) is not None
+    """A goal's answer, an invariant or a measure has the name that Rattle gives it."""
+    return re.search(r"^(?:abbrev )?(?:pub )?%s : (tie|goal)\." % re.escape(name), text, re.M) is not None
 
 
 texts = {p: open(p, encoding='utf-8').read() for p in files('.antt')}
 turned, fields = {}, {}
 for path, text in texts.items():
     names, own = declared(text)
-    turned[short(path)] = {n: (snake(n) + '_lem' if (short(path), n) in LEMMAS else snake(n)) for n in names if not is_goal(text, n)}
+    turned[short(path)] = {n: (snake(n) + '_lem' if (short(path), n) in LEMMAS and snake(n) + '_lem' not in names else snake(n))
+                           for n in names if not is_goal(text, n)}
     for f in own:
         if snake(f) != f:
             fields[f] = snake(f)

@@ -6,7 +6,7 @@ use Rattle.rules.specs.Choice.{pick, flip}
 use Rattle.rules.specs.Unit.{within}
 use Rattle.rules.specs.Outcome.{Outcome, done, refused, Finding, sound, wrong, Fault, faultless, fault}
 use Rattle.rules.specs.Record.{Argument, is_regular}
-use Rattle.original.specs.Shims.{Error, nul-found, invalid-argument, invalid-script, Result, Ok, Err}
+use Rattle.original.specs.Shims.{Error, nul_found, invalid_argument, invalid_script, Result, Ok, Err}
 use Rattle.original.specs.AppendArg.{Arg, Regular, Raw}
 
 -- a result, or a refusal's number; the Rust gives no place
@@ -16,9 +16,9 @@ pub data Verdict (A : Type 0) : Type 0 where
 
 -- the document's number of an error
 abbrev pub number_of : Error → ℕ
-number_of nul-found = 5
-number_of invalid-argument = 6
-number_of invalid-script = 7
+number_of nul_found = 5
+number_of invalid_argument = 6
+number_of invalid_script = 7
 
 -- what the Rust says
 abbrev pub rust_says : {A : Type 0} → Result A → Verdict A

@@ -12,7 +12,7 @@ use Rattle.rules.specs.Unit.{is_nul, nul, equals}
 use Rattle.rules.specs.Outcome.{sound, wrong_if, fault_from, first_fault, unless, limited}
 use Rattle.rules.specs.Record.{Entry, entries_of}
 use Rattle.rules.specs.Block.{block_limit, entry_units, block, entry_nul_finding, environment_block}
-use Rattle.original.specs.Shims.{Result, Ok, Err, nul-found, ensure_no_nuls, ◌>>=◌, Ordering, Less, Equal, Greater, Compare, at_first, insert, inserted, btree_map}
+use Rattle.original.specs.Shims.{Result, Ok, Err, nul_found, ensure_no_nuls, ◌>>=◌, Ordering, Less, Equal, Greater, Compare, at_first, insert, inserted, btree_map}
 use Rattle.original.specs.MakeEnvp.{for_env, make_envp}
 use Rattle.original.specs.Domain.{rust_says, port_says, in_domain, finding_says, fault_says}
 use Rattle.original.specs.DomainLaws.{unless_says, entries_sound}
@@ -77,14 +77,14 @@ entry_one e = e.key ++ equals ∷ e.value ++ nul ∷ []
 -- `?` twice, with what follows behind both or behind the whole
 module _ (k v : List ℕ) where
   entry_turned : (n m : Bool) (f : List ℕ → List ℕ) (b : List ℕ) (more : List ℕ → Result (List ℕ)) → f v ≡ b
-      → (pick n (Err nul-found) (Ok k) >>= λ k. pick m (Err nul-found) (Ok v) >>= λ v. more (f v))
-      ≡ ((pick n (Err nul-found) (Ok k) >>= λ k. pick m (Err nul-found) (Ok v) >>= λ v. Ok b) >>= more)
+      → (pick n (Err nul_found) (Ok k) >>= λ k. pick m (Err nul_found) (Ok v) >>= λ v. more (f v))
+      ≡ ((pick n (Err nul_found) (Ok k) >>= λ k. pick m (Err nul_found) (Ok v) >>= λ v. Ok b) >>= more)
   entry_turned true m f b more e = refl
   entry_turned false true f b more e = refl
   entry_turned false false f b more e = rw e
 
   entry_said : (n m : Bool) (b : List ℕ)
-      → rust_says (pick n (Err nul-found) (Ok k) >>= λ k. pick m (Err nul-found) (Ok v) >>= λ v. Ok b) ≡ finding_says (wrong_if 5 n (wrong_if 5 m sound)) b
+      → rust_says (pick n (Err nul_found) (Ok k) >>= λ k. pick m (Err nul_found) (Ok v) >>= λ v. Ok b) ≡ finding_says (wrong_if 5 n (wrong_if 5 m sound)) b
   entry_said true m b = refl
   entry_said false true b = refl
   entry_said false false b = refl

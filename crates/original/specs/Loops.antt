@@ -3,12 +3,12 @@ use Rattle.std.specs.Prelude.{ℕ, ◌+◌, ◌≡◌, refl, Bool, true, false, 
 use Rattle.std.proofs.Common.{ap, ◌∙◌, append_assoc, append-nil}
 use Rattle.rules.specs.Choice.{pick}
 use Rattle.rules.specs.Outcome.{Finding, sound, wrong, wrong_if, Fault, faultless, fault, fault_at, fault_from}
-use Rattle.original.specs.Shims.{Result, Ok, Err, nul-found, ◌>>=◌}
+use Rattle.original.specs.Shims.{Result, Ok, Err, nul_found, ◌>>=◌}
 use Rattle.original.specs.Domain.{gives, rust_says, finding_says, fault_says}
 
 -- behind `ensure_no_nuls`: a NUL is 5
 pub ensured_says : {A : Type 0} (n : Bool) (xs : List ℕ) {a b : A} → a ≡ b
-    → rust_says (pick n (Err nul-found) (Ok xs) >>= λ xs. Ok a) ≡ finding_says (wrong_if 5 n sound) b
+    → rust_says (pick n (Err nul_found) (Ok xs) >>= λ xs. Ok a) ≡ finding_says (wrong_if 5 n sound) b
 ensured_says true xs e = refl
 ensured_says false xs e = ap gives e
 

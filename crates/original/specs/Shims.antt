@@ -41,7 +41,7 @@ unwrap panic (some a) = a
 -- The errors that the judged functions give, without their kinds and texts.
 -- They are a NUL found by `ensure_no_nuls`; the constant of args 297 - 298, for an argument; and args 311 - 314, for a script.
 pub data Error : Type 0 where
-  nul-found invalid-argument invalid-script : Error
+  nul_found invalid_argument invalid_script : Error
 
 -- `io::Result`
 pub data Result (A : Type 0) : Type 0 where
@@ -255,7 +255,7 @@ btree_map compare entries = inserted compare [] entries
 
 -- `ensure_no_nuls`, by 01: 5 is "NUL in .. an argument, key or value"
 abbrev pub ensure_no_nuls : List ℕ → Result (List ℕ)
-ensure_no_nuls s = if any (λ x. x == 0) s then Err nul-found else Ok s
+ensure_no_nuls s = if any (λ x. x == 0) s then Err nul_found else Ok s
 
 -- `WStrUnits`, by 01: "The line is the lent units up to the first NUL or the end." It is what is left of them.
 unfoldable pub w_str_units : List ℕ → List ℕ
