@@ -17,7 +17,7 @@ CRATES = os.path.join(ROOT, 'crates')
 
 # A name in antt ends at a bracket, a comma, a semicolon, a dot or a blank.
 TOKEN = re.compile(r"[^\s(){}\[\],;.`\"]+")
-DECLARES = re.compile(r"^(\s*)((?:abbrev |unfoldable |pub )*)([^\s:(){}.,;]+(?: [^\s:(){}.,;]+)*)\s+:\s")
+DECLARES = re.compile(r"^(\s*)((?:abbrev |unfoldable |pub )*)([^\s:(){}.,;]+(?: [^\s:(){}.,;]+)*)\s+:(?:\s|$)")
 HEAD = re.compile(r"^(\s*)(?:pub )?(record|data)\s+([^\s:(){}]+)")
 MODULE = re.compile(r"^\s*(?:ghost )?use\s+Rattle\.([a-z_0-9]+)\.(specs|proofs)((?:\.[^\s.{};]+)*)(?: as (\S+))?;?\s*$", re.M)
 IMPORT = re.compile(r"^\s*(?:ghost )?use\s+Rattle\.([a-z_0-9]+)\.(specs|proofs)((?:\.[^\s.{};]+)*)\.\{([^}]*)\}", re.M)

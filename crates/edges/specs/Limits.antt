@@ -15,7 +15,7 @@ many n = replicate n 97
 -- ---- what is read
 
 -- of executable name and line, the one that is read counts: 32,767 units are refused by 3 for want of places, 32,768 by 2
-pub reading-stops :
+pub reading_stops :
     (reading (many 32767) [] 0 0 ≡ refused 3 0)
     × (reading (many 32768) [] 0 0 ≡ refused 2 0)
     × (reading (many 32768) (101 ∷ []) 1 2 ≡ done ((101 ∷ []) ∷ []))
@@ -23,24 +23,24 @@ pub reading-stops :
     × (reading [] (many 32767 ++ 0 ∷ []) 0 0 ≡ refused 3 0)
     × (reading [] (many 32768) 0 0 ≡ refused 2 0)
 unfolding reading
-reading-stops = (refl, refl, refl, refl, refl, refl)
+reading_stops = (refl, refl, refl, refl, refl, refl)
 
 -- ---- blocks
 
 -- a block that is built: 65,535 units are refused by 4 for want of room, 65,536 by 2
-pub blocks-stop :
+pub blocks_stop :
     (environment_block (0 ∷ 65532 ∷ 0 ∷ 0 ∷ []) (many 65532) 0 ≡ refused 4 0)
     × (environment_block (0 ∷ 65533 ∷ 0 ∷ 0 ∷ []) (many 65533) 0 ≡ refused 2 0)
 unfolding environment_block
-blocks-stop = (refl, refl)
+blocks_stop = (refl, refl)
 
 -- a block that is read: 65,535 units are refused by 3 for want of places, or by 8, and 65,536 by 2
-pub block-reading-stops :
+pub block_reading_stops :
     (block_reading (units "A=" ++ many 65531 ++ 0 ∷ 0 ∷ []) 3 ≡ refused 3 0)
     × (block_reading (many 65535) 0 ≡ refused 8 1)
     × (block_reading (many 65536) 0 ≡ refused 2 0)
 unfolding units block_reading
-block-reading-stops = (refl, refl, refl)
+block_reading_stops = (refl, refl, refl)
 
 -- ---- built lines, whatever brings their last units
 

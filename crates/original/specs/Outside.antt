@@ -28,7 +28,7 @@ Sides A = Verdict A × Verdict A
 -- ---- inside: a result, 5, 6 and 7 are in the domain, 1 to 4 are not
 
 -- of a line: a result, 5, 1, 2, 4; of a batch line: a result, 7, 6; of reading: a result, 3
-pub in-and-out :
+pub in_and_out :
     in_domain (command_line false [] [] [] 2)
     ∷ in_domain (command_line false [] (0 ∷ 0 ∷ 1 ∷ []) (nul ∷ []) 0)
     ∷ in_domain (command_line false [] (0 ∷ []) [] 2)
@@ -42,7 +42,7 @@ pub in-and-out :
     ∷ []
     ≡ true ∷ true ∷ false ∷ false ∷ false ∷ true ∷ true ∷ true ∷ true ∷ false ∷ []
 unfolding line_limit command_line batch_command_line reading
-in-and-out = refl
+in_and_out = refl
 
 -- ---- `make_command_line`
 
@@ -62,10 +62,10 @@ unfolding make_command_line command_line
 line_record_cut = refl
 
 -- 2: a line of one unit past the limit, two of them its quotes
-pub line-too-long :
+pub line_too_long :
     line_sides (replicate (line_limit - 1) 97) [] [] 0 ≡ (gives (quote ∷ replicate (line_limit - 1) 97 ++ quote ∷ []), refuses 2)
 unfolding line_limit make_command_line command_line
-line-too-long = refl
+line_too_long = refl
 
 -- 4: no room
 pub line_without_room : line_sides [] [] [] 0 ≡ (gives (quote ∷ quote ∷ []), refuses 4)
@@ -94,10 +94,10 @@ unfolding make_bat_command_line batch_command_line
 batch_record_cut = refl
 
 -- 2: a batch line of one unit past the limit, 31 of them round the script
-pub batch-too-long :
+pub batch_too_long :
     batch_sides (replicate (batch_limit - 30) 97) [] [] 0 ≡ (gives (only_script (replicate (batch_limit - 30) 97)), refuses 2)
 unfolding batch_limit make_bat_command_line batch_command_line
-batch-too-long = refl
+batch_too_long = refl
 
 -- 4: no room
 pub batch_without_room : batch_sides [] [] [] 0 ≡ (gives (only_script []), refuses 4)
@@ -109,11 +109,11 @@ abbrev pub append_nothing : Append
 append_nothing cmd arg quote = Ok cmd
 
 -- `carriage-return-unreached` asks that a call is `append_bat_arg` on every argument without CR: with another, on one that is empty, lines differ
-pub call-differs :
+pub call_differs :
     make_bat_command_line_by append_nothing [] (Regular [] ∷ []) false ∷ make_bat_command_line [] (Regular [] ∷ []) false ∷ []
     ≡ Ok (batch_front ++ units "\"\" \"") ∷ Ok (batch_front ++ units "\"\" \"\"\"") ∷ []
 unfolding make_bat_command_line batch_front
-call-differs = refl
+call_differs = refl
 
 -- ---- `append_bat_arg`
 
@@ -122,10 +122,10 @@ abbrev pub argument_sides : List ℕ → Sides (List ℕ)
 argument_sides arg = (rust_says (append_bat_arg [] arg false), finding_says (nul_finding (record { kind = regular; content = arg })) (batch_form false arg))
 
 -- a CR, given to the function itself, is written as a `%` is. From `make_bat_command_line` none comes.
-pub return-in-argument :
+pub return_in_argument :
     argument_sides (carriage_return ∷ []) ≡ (gives (units "\"%%cd:~,\r\""), gives (units "\"\r\""))
 unfolding append_bat_arg batch_form
-return-in-argument = refl
+return_in_argument = refl
 
 -- ---- `make_envp`
 
@@ -144,11 +144,11 @@ unfolding make_envp btree_map cmp entries_of environment_block
 block_record_cut = refl
 
 -- 2: a block of 65,537 units, of one entry whose key and value are one text; with one unit less in it there are 65,535
-pub block-too-long :
+pub block_too_long :
     block_sides (0 ∷ 32767 ∷ 0 ∷ 32767 ∷ []) (replicate 32767 97) 0
     ≡ (gives (replicate 32767 97 ++ equals ∷ replicate 32767 97 ++ nul ∷ nul ∷ []), refuses 2)
 unfolding make_envp btree_map cmp entries_of environment_block
-block-too-long = refl
+block_too_long = refl
 
 -- 4: no room
 pub block_without_room : block_sides [] [] 0 ≡ (gives (nul ∷ nul ∷ []), refuses 4)
@@ -156,25 +156,25 @@ unfolding make_envp btree_map cmp entries_of environment_block
 block_without_room = refl
 
 -- keys out of order: `A`, then an empty one, without values. The map yields the empty one first.
-pub keys-out-of-order :
+pub keys_out_of_order :
     block_sides (0 ∷ 1 ∷ 0 ∷ 0 ∷ 0 ∷ 0 ∷ 0 ∷ 0 ∷ []) (units "A") 6
     ≡ (gives (units "=" ++ nul ∷ units "A=" ++ nul ∷ nul ∷ []), gives (units "A=" ++ nul ∷ units "=" ++ nul ∷ nul ∷ []))
 unfolding make_envp btree_map cmp entries_of environment_block units
-keys-out-of-order = refl
+keys_out_of_order = refl
 
 -- keys that are not distinct: the empty one twice. The map yields one entry.
-pub keys-equal :
+pub keys_equal :
     block_sides (0 ∷ 0 ∷ 0 ∷ 0 ∷ 0 ∷ 0 ∷ 0 ∷ 0 ∷ []) [] 5
     ≡ (gives (units "=" ++ nul ∷ nul ∷ []), gives (units "=" ++ nul ∷ units "=" ++ nul ∷ nul ∷ []))
 unfolding make_envp btree_map cmp entries_of environment_block units
-keys-equal = refl
+keys_equal = refl
 
 -- keys that differ only in case: `a`, then `A`. The map yields one entry, under the first.
-pub keys-equal-but-for-case :
+pub keys_equal_but_for_case :
     block_sides (0 ∷ 1 ∷ 0 ∷ 0 ∷ 1 ∷ 1 ∷ 0 ∷ 0 ∷ []) (units "aA") 7
     ≡ (gives (units "a=" ++ nul ∷ nul ∷ []), gives (units "a=" ++ nul ∷ units "A=" ++ nul ∷ nul ∷ []))
 unfolding make_envp btree_map cmp entries_of environment_block units
-keys-equal-but-for-case = refl
+keys_equal_but_for_case = refl
 
 -- ---- `parse_lp_cmd_line`
 
@@ -198,10 +198,10 @@ unfolding parse_lp_cmd_line w_str_units reading
 read_without_room = refl
 
 -- `while-same` asks for as many turns as there are units: without one, a unit is left
-pub turns-too-few :
+pub turns_too_few :
     while_w 0 [] [] false (97 ∷ []) ∷ while_w 1 [] [] false (97 ∷ []) ∷ [] ≡ ([], [], false, 97 ∷ []) ∷ ([], 97 ∷ [], false, []) ∷ []
 unfolding while_w
-turns-too-few = refl
+turns_too_few = refl
 
 -- ---- `ExitStatus`
 

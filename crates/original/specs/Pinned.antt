@@ -61,10 +61,10 @@ unfolding cmp units
 orders = refl
 
 -- equal keys under an order that ignores case, `a` = 1 and then `A` = 2: the map keeps the first key and the last value
-pub first-key-last-value :
+pub first_key_last_value :
     btree_map (cmp upper) (key_and_value (units "a") (units "1") ∷ key_and_value (units "A") (units "2") ∷ []) ≡ key_and_value (units "a") (units "2") ∷ []
 unfolding btree_map cmp units
-first-key-last-value = refl
+first_key_last_value = refl
 
 -- no environment at all: no units, and in the Rust a null pointer beside them
 pub no_environment : make_envp none ≡ Ok []
