@@ -1,0 +1,59 @@
+-- `arguments::read_first` meets its contract. Assumes nothing.
+use mathlib.Core.Path.{◌∙◌, ◌≡◌, ap}
+use mathlib.Core.Bool.{Bool, false}
+use mathlib.Core.List.{List}
+use Prim.Native.Nat.{ℕ, ◌+◌, ◌-◌}
+use native.Mathlib.Omega.{arith}
+use lib.ListN.{drop, take}
+use lib.Seq.{sets}
+use Rattle.laws.specs.Run.{RunAt, part_run, run_at, starts_with, stops_at}
+use Rattle.arguments.specs.Run.{is_kept}
+use Rattle.arguments.specs.Next.{first_argument}
+use Rattle.arguments.proofs.First as F
+use Rattle.arguments.proofs.Still as still
+use Rattle.arguments.proofs.Still.{Still}
+use Rattle.arguments.proofs.read_first.Goals.{After-kept_run-run}
+use Rattle.arguments.proofs.read_first.Goals as goal
+
+-- the run of units that are kept at i
+run_is : (c : After-kept_run-run) → RunAt (is_kept c.loop-i.quoted) c.args.line.now c.loop-i.i c.kept_run-run.result
+run_is c =
+    let l = c.loop-i in
+    run_at (is_kept l.quoted) c.args.line.now l.i l.invariant.within c.kept_run-run.ensures
+
+-- no unit behind it is kept
+stopped : (c : After-kept_run-run) → starts_with (is_kept c.loop-i.quoted) (drop (c.loop-i.i + c.kept_run-run.result) c.args.line.now) ≡ false
+stopped c = stops_at (is_kept c.loop-i.quoted) c.args.line.now c.loop-i.i (run_is c).0
+
+-- what is left behind a run, once it is copied
+kept : {line before out after : List ℕ} {i n run : ℕ} {q : Bool} → Still first_argument line before out i n q → RunAt (is_kept q) line i run
+    → after ≡ sets out n (take (i + run - i) (drop i line)) → Still first_argument line before after (i + run) (n + run) q
+kept {line} {out = out} {i = i} {n = n} {run = run} s r w = F.keeps s run r.0 (w ∙ ap (sets out n) (part_run line i run))
+
+pub overflow_add-end : goal.overflow_add-end
+overflow_add-end c = omega (arith, run_is c)
+
+pub slice_bounds-copy_run-end : goal.slice_bounds-copy_run-end
+slice_bounds-copy_run-end c = omega (arith, run_is (goal.at.slice_bounds-copy_run-end c).After-kept_run-run)
+
+pub overflow_add-n : goal.overflow_add-n
+overflow_add-n c = omega (arith, run_is (goal.at.overflow_add-n c).After-kept_run-run)
+
+pub returns-then-line-end : goal.returns-then-line-end
+returns-then-line-end c =
+    F.finishes (kept c.loop-i.invariant (run_is (goal.at.returns-then-line-end c).After-kept_run-run) c.copy_run.ensures) c.if-line-end.true
+
+pub returns-then-line-end-ne34 : goal.returns-then-line-end-ne34
+returns-then-line-end-ne34 c =
+    let run = (goal.at.returns-then-line-end-ne34 c).After-kept_run-run in
+    F.stops (kept c.loop-i.invariant (run_is run) c.copy_run.ensures) c.if-line-end.false c.if-line-end-ne34.true (stopped run)
+
+pub loop-i-preserved : goal.loop-i-preserved
+loop-i-preserved c =
+    F.toggles (kept c.loop-i.invariant (run_is (goal.at.loop-i-preserved c).After-kept_run-run) c.copy_run.ensures) c.if-line-end.false c.if-line-end-ne34.false
+
+pub loop-i-init : goal.loop-i-init
+loop-i-init c = still.starts _ _
+
+pub returns : goal.returns
+returns c = F.finishes c.loop-i.invariant c.loop-i-test.false
