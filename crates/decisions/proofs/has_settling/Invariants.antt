@@ -1,10 +1,9 @@
 -- The invariant and the measure of `decisions::has_settling`. Assumes nothing.
-use lib.ListN.{drop, get_or, length}
+use lib.ListN.{drop, length}
 use Prim.Native.Nat.{◌-◌, ◌≤◌}
-use mathlib.Core.Path.{◌∙◌, ◌≡◌, refl}
+use mathlib.Core.Path.{◌≡◌}
 use Rattle.rules.specs.Choice.{any, either}
 use Rattle.decisions.specs.Settling.{is_settling}
-use Rattle.decisions.proofs.Deciding.{any_end, any_turn, class_settles}
 use Rattle.decisions.proofs.has_settling.Given as goal
 
 abbrev pub invariant-loop-i : goal.invariant-loop-i
