@@ -15,14 +15,10 @@ import model
 import questions
 
 HEAD = '''-- The definitions beside the answers. Assumes nothing.
-use Prim.Native.Nat.{{ℕ}}
-use mathlib.Core.Path.{{_≡_, refl}}
-use mathlib.Core.Bool.{{Bool, true, false}}
-use mathlib.Core.List.{{List, [], _∷_}}
-use lib.IntN.{{ℤ, pos, negsuc}}
-use Rattle·rules.specs.Outcome.{{Outcome, done, refused}}
-use Rattle·rules.specs.Record.{{Entry}}
-use Rattle·rules.specs.{module}.{{{names}}}
+use Rattle.std.specs.Prelude.{{ℕ, ◌≡◌, refl, Bool, true, false, List, [], ◌∷◌, ℤ, pos, negsuc}}
+use Rattle.rules.specs.Outcome.{{Outcome, done, refused}}
+use Rattle.rules.specs.Record.{{Entry}}
+use Rattle.rules.specs.{module}.{{{names}}}
 
 computed : List ({type})
 unfolding {unfolded}
@@ -71,12 +67,12 @@ def entries(block, spans):
 def block_rows(block, lent):
     """What a block is read as, and its units used with the numbers of the table behind them."""
     number, place, count, used, spans = model.lent_entries(block, [7] * lent)
-    reads = f'blockReading ({units(block)}) {lent}'
+    reads = f'block_reading ({units(block)}) {lent}'
     if number:
         return [('entries', reads, f'refused {number} {place}')]
-    given = f'(entriesRead ({units(block)}))'
+    given = f'(entries_read ({units(block)}))'
     return [('entries', reads, f'done ({entries(block, spans[:4 * count])})'),
-            ('used', f'unitsUsed {given} ∷ entrySpans {given}', units([used] + spans[:4 * count]))]
+            ('used', f'units_used {given} ∷ entry_spans {given}', units([used] + spans[:4 * count]))]
 
 
 def rows_of(q, a):
@@ -89,24 +85,24 @@ def rows_of(q, a):
         return [(verb, f'reading ({units(model.units(w[0]))}) ({units(model.units(w[1]))}) {room} {room}', outcome(a, arguments))]
     if verb in ('line', 'batch'):
         records, text = model.flat(w[2:], False)
-        name = 'commandLine' if verb == 'line' else 'batchCommandLine'
+        name = 'command_line' if verb == 'line' else 'batch_command_line'
         return [(verb, f'{name} {flag(w[0])} ({units(model.units(w[1]))}) ({units(records)}) ({units(text)}) {room}', outcome(a, line))]
     if verb == 'env':
         records, text = model.flat(w, True)
-        return [(verb, f'environmentBlock ({units(records)}) ({units(text)}) {room}', outcome(a, line))]
+        return [(verb, f'environment_block ({units(records)}) ({units(text)}) {room}', outcome(a, line))]
     if verb == 'suffix':
-        return [(verb, f'hasBatchSuffix ({units(model.units(w[0]))})', flag(a.split(' ')[1]))]
+        return [(verb, f'has_batch_suffix ({units(model.units(w[0]))})', flag(a.split(' ')[1]))]
     told = a.split(' ')
     code = int(told[2])
-    return [(verb, f'statusOutcome {w[0]} {room}', f'done ({line(told)})'),
-            ('code', f'signedCode {w[0]}', f'pos {code}' if code >= 0 else f'negsuc {-code - 1}')]
+    return [(verb, f'status_outcome {w[0]} {room}', f'done ({line(told)})'),
+            ('code', f'signed_code {w[0]}', f'pos {code}' if code >= 0 else f'negsuc {-code - 1}')]
 
 
 # Of each shape: the module of `rules`, the names that are asked of it, of which the first unfolds, and the type.
-SHAPES = {'read': ('Reading', 'reading', 'Outcome (List (List ℕ))'), 'line': ('Building', 'commandLine', 'Outcome (List ℕ)'),
-          'batch': ('Building', 'batchCommandLine', 'Outcome (List ℕ)'), 'env': ('Block', 'environmentBlock', 'Outcome (List ℕ)'),
-          'suffix': ('Suffix', 'hasBatchSuffix', 'Bool'), 'status': ('Status', 'statusOutcome', 'Outcome (List ℕ)'), 'code': ('Status', 'signedCode', 'ℤ'),
-          'entries': ('BlockReading', 'blockReading', 'Outcome (List Entry)'), 'used': ('BlockReading', 'entriesRead, unitsUsed, entrySpans', 'List ℕ')}
+SHAPES = {'read': ('Reading', 'reading', 'Outcome (List (List ℕ))'), 'line': ('Building', 'command_line', 'Outcome (List ℕ)'),
+          'batch': ('Building', 'batch_command_line', 'Outcome (List ℕ)'), 'env': ('Block', 'environment_block', 'Outcome (List ℕ)'),
+          'suffix': ('Suffix', 'has_batch_suffix', 'Bool'), 'status': ('Status', 'status_outcome', 'Outcome (List ℕ)'), 'code': ('Status', 'signed_code', 'ℤ'),
+          'entries': ('BlockReading', 'block_reading', 'Outcome (List Entry)'), 'used': ('BlockReading', 'entries_read, units_used, entry_spans', 'List ℕ')}
 
 
 def main():
@@ -125,16 +121,16 @@ def main():
     crate = os.path.join(scratch, 'crates/judged')
     os.makedirs(crate + '/src')
     os.makedirs(crate + '/specs')
-    shutil.copytree(os.path.join(repository, 'crates/rules'), os.path.join(scratch, 'crates/rules'), ignore=shutil.ignore_patterns('must-fail'))
+    shutil.copytree(os.path.join(repository, 'crates/rules'), os.path.join(scratch, 'crates/rules'), ignore=shutil.ignore_patterns('must-fail', 'out'))
     open(os.path.join(scratch, 'crates.txt'), 'w').write('rules:\njudged: rules\n')
-    open(crate + '/src/lib.rt', 'w').write('// No code.\n')
+    open(crate + '/src/lib.rt', 'w').write('// No code.\n#![tactic(auto)]\n')
     open(crate + '/specs/Lib.antt', 'w').write(''.join(f'pub mod {v.capitalize()}\n' for v in sorted(rows)))
     for verb, pairs in rows.items():
         module, names, type_ = SHAPES[verb]
         left, right = listed([p[0] for p in pairs]), listed([p[1] for p in pairs])
         text = HEAD.format(module=module, names=names, unfolded=names.split(',')[0], type=type_, left=left, right=right)
         open(f'{crate}/specs/{verb.capitalize()}.antt', 'w').write(text)
-    ran = subprocess.run(['rt', 'check', 'judged'], cwd=scratch, capture_output=True, text=True)
+    ran = subprocess.run(['rt', 'check'], cwd=crate, capture_output=True, text=True)
     if ran.returncode:
         print(ran.stdout[-4000:], ran.stderr[-2000:])
         sys.exit('the definitions and the answers differ')

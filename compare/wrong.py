@@ -7,7 +7,6 @@ Each variant is made in a scratch copy, compiled with no proof (`rt try`) and gi
 as recorded, or the code as it stands does not.
 """
 import os
-import resource
 import shutil
 import subprocess
 import sys
@@ -56,10 +55,15 @@ VARIANTS = {
 }
 
 
-def program(scratch, name, path, changes):
-    """The command that starts the program of this name with these changes."""
+# `rt try` shows no answer past 1 MiB: the lines of a program that keeps nothing between two of them are tried in parts of so many answers' characters.
+PART = 500000
+KEEPS = ('cached',)
+
+
+def made(scratch, path, changes):
+    """A copy of the crates' code with these changes."""
     crates = os.path.join(scratch, 'crates')
-    shutil.copytree(os.path.join(ROOT, 'crates'), crates, ignore=shutil.ignore_patterns('proofs', 'specs', 'must-fail'))
+    shutil.copytree(os.path.join(ROOT, 'crates'), crates, ignore=shutil.ignore_patterns('proofs', 'must-fail', 'out', 'data', 'stdin', 'stdout', 'args'))
     shutil.copy(os.path.join(ROOT, 'crates.txt'), scratch)
     text = open(os.path.join(crates, path)).read()
     for old, new in changes:
@@ -67,37 +71,43 @@ def program(scratch, name, path, changes):
             sys.exit(f'{path} no longer has just one {old!r}')
         text = text.replace(old, new)
     open(os.path.join(crates, path), 'w').write(text)
-    # Tried with no line: what counts is that the linker keeps the program.
-    for file in ('stdin', 'stdout'):
-        open(os.path.join(crates, name, file), 'w').close()
-    kit, kept = os.path.join(scratch, 'kit'), os.path.join(scratch, 'target/bin', name)
-    os.makedirs(os.path.dirname(kept))
-    keep = f'"$real" "$@" || exit\nwhile [ "$1" != -o ]; do shift; done\ncp "$2" {kept}\n'
-    subprocess.run([os.path.join(ROOT, 'tools/linked-kit'), kit, 'ld.lld'], input=keep, text=True, check=True)
-    tried = subprocess.run(['rt', 'try', name], cwd=scratch, env={**os.environ, 'RATTLE_HOME': kit}, capture_output=True, text=True)
-    if not os.path.exists(kept):
-        sys.exit(tried.stdout + tried.stderr)
-    shutil.copytree(os.path.join(ROOT, 'tools'), os.path.join(scratch, 'tools'))
-    return [os.path.join(scratch, 'tools/start'), name]
-
-
-def larger_stack():
-    """What is compiled without optimisation holds each of its arrays twice."""
-    resource.setrlimit(resource.RLIMIT_STACK, (64 << 20, resource.getrlimit(resource.RLIMIT_STACK)[1]))
 
 
 def lines_of(name, file):
     return open(os.path.join(ROOT, 'crates', name, file)).read().split('\n')[:-1]
 
 
+def parts(name):
+    """The recorded lines and answers, cut into parts that can be tried."""
+    put, recorded = lines_of(name, 'stdin'), lines_of(name, 'stdout')
+    first, size = 0, 0
+    for i, answer in enumerate(recorded):
+        size += len(answer.encode()) + 1
+        if size > PART and name not in KEEPS:
+            yield put[first:i], recorded[first:i]
+            first, size = i, len(answer.encode()) + 1
+    yield put[first:], recorded[first:]
+
+
 def caught(name, path, changes):
     """The recorded lines of a program that a variant answers otherwise, the shortest first."""
-    put, recorded = lines_of(name, 'stdin'), lines_of(name, 'stdout')
     with tempfile.TemporaryDirectory() as scratch:
-        ran = subprocess.run(program(scratch, name, path, changes), input='\n'.join(put) + '\n', capture_output=True, text=True, preexec_fn=larger_stack)
-    answers = ran.stdout.split('\n')[:-1]
-    answers += ['none'] * (len(put) - len(answers))
-    return sorted((line for line, want, have in zip(put, recorded, answers) if want != have), key=lambda line: (len(line), line))
+        made(scratch, path, changes)
+        cases = os.path.join(scratch, 'cases')
+        os.makedirs(cases)
+        cut = list(parts(name))
+        for i, (put, _) in enumerate(cut):
+            open(os.path.join(cases, f'part{i:03}'), 'w').write('\n'.join(put) + '\n')
+        ran = subprocess.run(['rt', 'try', '--cases', cases], cwd=os.path.join(scratch, 'crates', name), capture_output=True, text=True)
+    found = []
+    for i, (put, recorded) in enumerate(cut):
+        _, head, rest = ran.stdout.partition(f'== part{i:03}\n')
+        if not head:
+            sys.exit(ran.stdout[-2000:] + ran.stderr[-2000:])
+        answers = rest.split('\n')[:len(put)]
+        answers += ['none'] * (len(put) - len(answers))
+        found += [line for line, want, have in zip(put, recorded, answers) if want != have]
+    return sorted(found, key=lambda line: (len(line), line))
 
 
 def main():
