@@ -1,6 +1,6 @@
 /* aslapush.h: launch lines for Windows processes, written and read in UTF-16 units, proved.
  *
- * Link target/staticlib/libaslapush.a (`rt staticlib aslapush`), x86-64. It needs `memcpy` at link time, and nothing else.
+ * Link crates/aslapush/out/libaslapush.a (`rt lib` in crates/aslapush), x86-64. It needs `memcpy` at link time, and nothing else.
  *
  * What is lent
  *     Units are UTF-16 code units; unpaired surrogates are ordinary units. Nothing is allocated and nothing is kept: every text, table, output and store is
