@@ -9,7 +9,6 @@ use lib.Seq.{sets, length-take-le}
 use lib.Dec.{eqb, eqb-suc-zero, leb}
 use borrow.Author.Tests.{lt-ltb, le-ltb, leb-true}
 use Rattle.rules.specs.declared.Parsed.{Parsed}
-use Rattle.rules.specs.declared.Parsed.TheVariants as Parsed
 use Rattle.rules.specs.Choice.{pick, flip, is_empty}
 use Rattle.rules.specs.Unit.{is_nul}
 use Rattle.rules.specs.Outcome.{Outcome, done, refused}

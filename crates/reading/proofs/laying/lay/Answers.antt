@@ -1,0 +1,35 @@
+-- `reading::laying::lay` meets its contract. Assumes nothing.
+use Prim.Native.Nat.{◌<◌}
+use native.Mathlib.Omega.{arith}
+use lib.ListN.{drop, length, length-drop}
+use Rattle.laws.specs.Store.{back_is, part_is}
+use Rattle.reading.proofs.Left as Y
+use Rattle.reading.proofs.Left.{Laying}
+use Rattle.reading.proofs.laying.lay.Goals as goal
+
+pub loop-i-init : goal.loop-i-init
+loop-i-init c =
+    let m = c.read_first-first in
+    Y.starts _ _ _ _ _ _ c.skip_blanks-i.ensures.0 c.skip_blanks-i.ensures.1 m.ensures.few
+
+pub loop-i-smaller : goal.loop-i-smaller
+loop-i-smaller c =
+    let m = c.read_later-took in
+    let l = c.loop-i in
+    let line = c.args.line.now in
+    let some : 0 < length (drop l.i line) = rw length-drop (omega (arith, c.loop-i-test.true)) in
+    omega (arith, c.loop-i-test.true, (rw (part_is l.i line) at m.ensures).some some, c.skip_blanks-i-in-loop-i.ensures)
+
+pub loop-i-preserved : goal.loop-i-preserved
+loop-i-preserved c =
+    let l = c.loop-i in
+    let smaller = c.smaller-from in
+    let took = c.read_later-took in
+    let from = smaller.result in
+    Y.turn l.invariant from _ c.loop-i-test.true (rw (part_is l.i _) at took.ensures) (part_is from l.text) (back_is from l.text _) smaller.ensures
+    c.put_span-in-loop-i.ensures c.skip_blanks-i-in-loop-i.ensures.0 c.skip_blanks-i-in-loop-i.ensures.1
+
+pub returns : goal.returns
+returns c =
+    let m = c.read_first-first in
+    Y.finishes _ m.ensures c.put_span.ensures c.skip_blanks-i.ensures.0 c.loop-i.invariant c.loop-i-test.false
