@@ -71,11 +71,14 @@ batch_step q xs (other {x} p r) ih k =
     (simp lengths (omega (arith, ih 0)))
     (simp lengths (omega (arith, ih 0))))
 
+batch_small : (q : Bool) (xs : List ℕ) → BatchSmall q xs
+unfolding batch_escaped
+batch_small q [] = λ k. omega (arith, end_length q k)
+batch_small q (x ∷ xs) = batch_step q xs (kind x) (batch_small q xs)
+
 -- escaped units of a batch argument are at most eight for each of the argument, and two for each backslash before it
 pub batch_escaped_length : (q : Bool) (xs : List ℕ) (k : ℕ) → length (batch_escaped q k xs) ≤ 8 * length xs + 2 * k
-unfolding batch_escaped
-batch_escaped_length q [] = λ k. omega (arith, end_length q k)
-batch_escaped_length q (x ∷ xs) = batch_step q xs (kind x) (batch_escaped_length q xs)
+batch_escaped_length q xs k = omega (arith, batch_small q xs k)
 
 -- ---- forms
 
@@ -105,8 +108,8 @@ pub batch_form_length : (force : Bool) (xs : List ℕ) → length (batch_form fo
 unfolding batch_form
 batch_form_length force xs =
     choose (λ r. length r ≤ 8 * length xs + 2) (needs_batch_quotes force xs) {x = enclosed (batch_escaped true 0 xs)} {y = batch_escaped false 0 xs}
-    (simp length-append (omega (arith, batch_escaped_length true xs 0)))
-    (omega (arith, batch_escaped_length false xs 0))
+    (simp length-append (omega (arith, batch_small true xs 0)))
+    (omega (arith, batch_small false xs 0))
 
 -- ---- digits
 

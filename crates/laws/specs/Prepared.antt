@@ -8,7 +8,7 @@ use Rattle.rules.specs.Unit.{is_nul}
 use Rattle.rules.specs.declared.Refusal.{Refusal}
 use Rattle.rules.specs.Outcome.{Outcome, done, refused, refuse, Fault, faultless, fault, first_fault, unless, over, filled}
 use Rattle.rules.specs.Record.{Argument, judged, argument_finding, argument_records, argument_fault, arguments_of}
-use Rattle.rules.specs.Building.{line, line_limit, nul_finding, command_line}
+use Rattle.rules.specs.Building.{line_limit, nul_finding, command_line}
 use Rattle.rules.specs.Answer.{refusal, wrote, refusal_said, Answered}
 use Rattle.rules.specs.Key.{Launch, launch, key_of, prepared, launch_line}
 use Rattle.rules.specs.Cache.{CacheEntry, cache_entry}

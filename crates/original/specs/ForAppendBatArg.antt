@@ -178,7 +178,7 @@ bat_units_loop xs c q cmd = bat_writes q xs c 0 cmd cmd (rw append-nil)
 -- ---- the argument
 
 -- An argument with no CR and no NUL is appended in its batch form, and one with a NUL is refused by 5, whether quotes are forced or not.
--- With a CR it is never called: see `carriage-return-unreached` in ForMakeBatCommandLine.
+-- With a CR it is never called: see `carriage_return_unreached` in ForMakeBatCommandLine.
 pub append_bat_arg_same : (force : Bool) (cmd : List ℕ) (a : Argument) → any is_return a.content ≡ false
     → rust_says (append_bat_arg cmd a.content force) ≡ finding_says (nul_finding a) (cmd ++ batch_form force a.content)
 unfolding append_bat_arg batch_form

@@ -16,8 +16,6 @@ pub mod Loops
 pub mod ForAppendArg
 pub mod ForAppendBatArg
 pub mod ForMakeCommandLine
-pub mod ForMakeBatCommandLine
-pub mod ForParseLpCmdLine
 pub mod ForMakeEnvp
 pub mod ForHasBatExtension
 pub mod ForExitStatus

@@ -46,7 +46,7 @@ in_and_out = refl
 
 -- ---- `make_command_line`
 
--- the two sides of `make-command-line-same`, quotes not forced
+-- the two sides of `make_command_line_same`, quotes not forced
 abbrev pub line_sides : List ℕ → List ℕ → List ℕ → ℕ → Sides (List ℕ)
 line_sides program records text room =
     (rust_says (make_command_line program (args_of (arguments_of text records)) false), port_says (command_line false program records text room))
@@ -74,7 +74,7 @@ line_without_room = refl
 
 -- ---- `make_bat_command_line`
 
--- the two sides of `make-bat-command-line-same`, quotes not forced
+-- the two sides of `make_bat_command_line_same`, quotes not forced
 abbrev pub batch_sides : List ℕ → List ℕ → List ℕ → ℕ → Sides (List ℕ)
 batch_sides script records text room =
     (rust_says (make_bat_command_line script (args_of (arguments_of text records)) false), port_says (batch_command_line false script records text room))
@@ -108,7 +108,7 @@ batch_without_room = refl
 abbrev pub append_nothing : Append
 append_nothing cmd arg quote = Ok cmd
 
--- `carriage-return-unreached` asks that a call is `append_bat_arg` on every argument without CR: with another, on one that is empty, lines differ
+-- `carriage_return_unreached` asks that a call is `append_bat_arg` on every argument without CR: with another, on one that is empty, lines differ
 pub call_differs :
     make_bat_command_line_by append_nothing [] (Regular [] ∷ []) false ∷ make_bat_command_line [] (Regular [] ∷ []) false ∷ []
     ≡ Ok (batch_front ++ units "\"\" \"") ∷ Ok (batch_front ++ units "\"\" \"\"\"") ∷ []
@@ -117,7 +117,7 @@ call_differs = refl
 
 -- ---- `append_bat_arg`
 
--- the two sides of `append-bat-arg-same` on a regular argument, quotes not forced
+-- the two sides of `append_bat_arg_same` on a regular argument, quotes not forced
 abbrev pub argument_sides : List ℕ → Sides (List ℕ)
 argument_sides arg = (rust_says (append_bat_arg [] arg false), finding_says (nul_finding (record { kind = regular; content = arg })) (batch_form false arg))
 
@@ -133,7 +133,7 @@ return_in_argument = refl
 abbrev pub upper : ℕ → ℕ
 upper x = pick (within 97 122 x) (x - 32) x
 
--- the two sides of `make-envp-same`, in an order that ignores the case of A to Z
+-- the two sides of `make_envp_same`, in an order that ignores the case of A to Z
 abbrev pub block_sides : List ℕ → List ℕ → ℕ → Sides (List ℕ)
 block_sides records text room =
     (rust_says (make_envp (some (btree_map (cmp upper) (entries_of text records)))), port_says (environment_block records text room))
@@ -178,7 +178,7 @@ keys_equal_but_for_case = refl
 
 -- ---- `parse_lp_cmd_line`
 
--- the two sides of `parse-lp-cmd-line-same`, with an empty executable name
+-- the two sides of `parse_lp_cmd_line_same`, with an empty executable name
 abbrev pub read_sides : List ℕ → ℕ → ℕ → Sides (List (List ℕ))
 read_sides lent room numbers = (gives (parse_lp_cmd_line (some (w_str_units lent)) []), port_says (reading [] lent room numbers))
 
@@ -197,7 +197,7 @@ pub read_without_room : read_sides (97 ∷ []) 0 2 ≡ (gives ((97 ∷ []) ∷ [
 unfolding parse_lp_cmd_line w_str_units reading
 read_without_room = refl
 
--- `while-same` asks for as many turns as there are units: without one, a unit is left
+-- `while_same` asks for as many turns as there are units: without one, a unit is left
 pub turns_too_few :
     while_w 0 [] [] false (97 ∷ []) ∷ while_w 1 [] [] false (97 ∷ []) ∷ [] ≡ ([], [], false, 97 ∷ []) ∷ ([], 97 ∷ [], false, []) ∷ []
 unfolding while_w
@@ -205,12 +205,12 @@ turns_too_few = refl
 
 -- ---- `ExitStatus`
 
--- the two sides of `exit-code-same`: 4,294,967,296 is no `u32`
+-- the two sides of `exit_code_same`: 4,294,967,296 is no `u32`
 pub no_status_code : exit_code 4294967296 ∷ some (signed_code 4294967296) ∷ [] ≡ some (neg_ℤ (pos 4294967296)) ∷ some (pos 0) ∷ []
 unfolding exit_code signed_code
 no_status_code = refl
 
--- the two sides of `exit-display-same`
+-- the two sides of `exit_display_same`
 abbrev pub status_sides : ℕ → ℕ → Sides (List ℕ)
 status_sides status room = (gives (exit_display status), port_says (status_outcome status room))
 
@@ -226,7 +226,7 @@ status_without_room = refl
 
 -- ---- texts
 
--- `any-bytes` asks for a test that holds of no number from 128 up: that a number is 0xc2 holds of a byte of U+0080, and of no unit of it
+-- `any_bytes` asks for a test that holds of no number from 128 up: that a number is 0xc2 holds of a byte of U+0080, and of no unit of it
 pub test_above : any (λ b. b == 0xc2) (as_encoded_bytes (0x80 ∷ [])) ∷ any (λ b. b == 0xc2) (0x80 ∷ []) ∷ [] ≡ true ∷ false ∷ []
 unfolding as_encoded_bytes
 test_above = refl

@@ -92,7 +92,7 @@ match_w ret-val cur in-quotes w code-units =
       let cur = push cur w
       Continue (ret-val, cur, in-quotes, code-units))
 
--- the loop over the arguments' units, for at most so many turns. As many as there are units are enough: `while-same` in ForParseLpCmdLine.
+-- the loop over the arguments' units, for at most so many turns. As many as there are units are enough: `while_same` in ForParseLpCmdLine.
 unfoldable pub while_w : ℕ → List (List ℕ) → List ℕ → Bool → List ℕ → Locals
 unfolding match_w
 while_w zero ret-val cur in-quotes code-units = (ret-val, cur, in-quotes, code-units)  -- no line of the Rust: no turns are left

@@ -31,7 +31,7 @@ unwrap_or none other = other
 unwrap_or (some a) other = a
 
 -- `unwrap`: where there is none the Rust panics. What stands for that is given first.
--- It never counts: `unwrap-unreached` (ForParseLpCmdLine) and, of the constants, `constants` (Pinned).
+-- It never counts: `unwrap_unreached` (ForParseLpCmdLine) and, of the constants, `constants` (Pinned).
 abbrev pub unwrap {ℓ} : {A : Type ℓ} → A → Option A → A
 unwrap panic none = panic
 unwrap panic (some a) = a

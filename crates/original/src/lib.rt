@@ -1,2 +1,2 @@
-// The judged Rust functions, transcribed as definitions, with the theorems that they equal `rules`: all in specs/, no code.
+// The judged Rust functions, transcribed as definitions in specs/, with the theorems that they equal `rules`, in specs/ and proofs/. No code.
 #![tactic(auto)]

@@ -2,9 +2,7 @@
 use Rattle.std.specs.Prelude.{ℕ, ◌≡◌, Bool, List, length}
 use Rattle.rules.specs.declared.Refusal.{Refusal}
 use Rattle.rules.specs.declared.Parsed.{Parsed}
-use Rattle.rules.specs.declared.Parsed.TheVariants as Parsed
 use Rattle.rules.specs.declared.Listed.{Listed}
-use Rattle.rules.specs.declared.Listed.TheVariants as Listed
 use Rattle.rules.specs.Outcome.{Outcome, refused}
 use Rattle.rules.specs.Record.{Entry}
 use Rattle.rules.specs.Answer.{Said, refusal, wrote, refusal_said, parsed_said, listed_said, Answered, Read, Listing}

@@ -2,7 +2,6 @@
 use Rattle.std.specs.Prelude.{ℕ, ◌≤◌, ◌<◌, ◌≡◌, Bool, false, List, [], ◌∷◌, length, get_or, take}
 use Rattle.std.proofs.Common.{arith, ◌∙◌}
 use Rattle.rules.specs.declared.Parsed.{Parsed}
-use Rattle.rules.specs.declared.Parsed.TheVariants as Parsed
 use Rattle.rules.specs.Choice.{any}
 use Rattle.rules.specs.Unit.{is_quote}
 use Rattle.rules.specs.Outcome.{done}

@@ -2,6 +2,7 @@
 -- "All this is said of a store made empty and changed only by these calls." (02, E3)
 use Rattle.std.specs.Prelude.{ℕ, ◌+◌, ◌-◌, ◌*◌, ◌≤◌, ◌<◌, ◌≡◌, refl, Bool, true, false, List, [], ◌∷◌, ◌++◌, ltb, leb, length, drop}
 use Rattle.std.proofs.Common.{zero-le, arith, leb-false, ltb-false, ap, ◌∙◌, length-append, length-drop}
+use Rattle.std.proofs.Math.Path.{subst⁻¹}
 use Rattle.std.proofs.Math.Seq.{drop-append_seam}
 use Rattle.rules.specs.declared.Cached.{Cached}
 use Rattle.rules.specs.Outcome.{Outcome, done, refused, refuse, over}
@@ -132,7 +133,7 @@ kept (after_clear {units = units} a e) = let (n, r) = emptied units (kept a).roo
 kept (after_store {calls} {index} {units} {index'} {units'} fingerprint lent r a s) =
     let k = kept a in
     let l = store_lays cache_places fingerprint lent (entries_after calls units) k.stands k.room (s.leaves (entries_after calls units) k.stands) in
-    record { room = rw l.same_index k.room; stands = rw l.same_units l.stands }
+    record { room = rw l.same_index k.room; stands = subst⁻¹ (λ n. Represents cache_places index' units' (left_by_all cache_places n (store fingerprint lent ∷ calls))) l.same_units l.stands }
 
 -- "The index of fingerprints must agree with the entries after any calls": after any calls the memory stands for the entries that the calls leave
 pub represented : {calls : List Call} {index units : List ℕ} → After calls index units → Represents cache_places index units (entries_after calls units)

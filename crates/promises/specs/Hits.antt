@@ -2,7 +2,6 @@
 use Rattle.std.specs.Prelude.{ℕ, ◌≡◌, refl, ◌↔◌, Bool, true, false, List, [], ◌∷◌, ◌++◌}
 use Rattle.std.proofs.Common.{arith, sym, ap, ◌∙◌}
 use Rattle.rules.specs.declared.Cached.{Cached}
-use Rattle.rules.specs.declared.Cached.TheVariants as Cached
 use Rattle.rules.specs.Choice.{any}
 use Rattle.rules.specs.Outcome.{done, refused, Fault, faultless, fault, unless}
 use Rattle.rules.specs.Record.{part, argument_fault}

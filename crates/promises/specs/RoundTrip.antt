@@ -55,6 +55,8 @@ module _ {force : Bool} {program records text : List ℕ} {room : ℕ} {whole : 
   -- demand 3, with room that is always enough
   pub round_trip_always : (executable : List ℕ) (output numbers : ℕ) → 32767 ≤ output → 32768 ≤ numbers
       → reading executable whole output numbers ≡ done listed
+  unfolding read_limit
   round_trip_always executable output numbers h g =
       let (fits, same) = read_back executable in
-      always_enough executable whole output numbers h g fits ∙ rw same
+      let e = rw same at (read_extent executable whole) in
+      round_trip executable output numbers (omega arith) (omega arith)

@@ -2,11 +2,10 @@
 -- "the builder's refusals save 4 pass through first .. Then 3 if all entries are used, then 4 exactly if that is more than the units left." (02, E3)
 use Rattle.std.specs.Prelude.{ℕ, ◌+◌, ◌-◌, ◌≤◌, ◌<◌, ◌≡◌, ◌↔◌, Bool, true, false, eqb, ltb, leb}
 use Rattle.std.proofs.Common.{zero-add, arith, leb-true, leb-false, ltb-true, ltb-false, ◌∙◌, length-append}
-use Rattle.std.proofs.Math.Path.{refl, sym, ap}
+use Rattle.std.proofs.Math.Path.{refl, sym, ap, subst⁻¹}
 use mathlib.Core.List.{List, [], ◌∷◌, ◌++◌}
 use Rattle.std.proofs.Math.ListN.{length}
 use Rattle.rules.specs.declared.Cached.{Cached}
-use Rattle.rules.specs.declared.Cached.TheVariants as Cached
 use Rattle.rules.specs.Choice.{pick, either, any}
 use Rattle.rules.specs.Outcome.{Outcome, done, refused, refuse, faultless}
 use Rattle.rules.specs.Record.{part, argument_fault}
@@ -266,7 +265,9 @@ module _ {calls : List Call} {index units index' units' : List ℕ} (a : After c
   -- they are those before and perhaps the new one
   left_are : es' ≡ stored_in (cached_said r) new es
   unfolding left_by_all left_by
-  left_are = rw (units_kept a fingerprint lent r s) (ap (λ o. stored_in o new es) (sym (s.says es (represented a))))
+  left_are =
+      subst⁻¹ (λ n. left_by_all cache_places n (store fingerprint lent ∷ calls) ≡ stored_in (cached_said r) new es) (units_kept a fingerprint lent r s)
+      (ap (λ o. stored_in o new es) (sym (s.says es (represented a))))
 
   -- what was stored, or was held, stands where the storing says
   stands_there : (start size : ℕ) → told_of (cached_said r) ≡ there start size → standing fingerprint (key_of lent) 0 es' ≡ there start size

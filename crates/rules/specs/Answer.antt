@@ -1,15 +1,10 @@
 -- What an answer says in the document's numbers, and what an entry point promises of its answer and of the lent memory. Assumes nothing.
 use Rattle.std.specs.Prelude.{ℕ, ◌≡◌, List, length}
 use Rattle.rules.specs.declared.Refusal.{Refusal}
-use Rattle.rules.specs.declared.Refusal.TheVariants as Refusal
 use Rattle.rules.specs.declared.Built.{Built}
-use Rattle.rules.specs.declared.Built.TheVariants as Built
 use Rattle.rules.specs.declared.Filled.{Filled}
-use Rattle.rules.specs.declared.Filled.TheVariants as Filled
 use Rattle.rules.specs.declared.Parsed.{Parsed}
-use Rattle.rules.specs.declared.Parsed.TheVariants as Parsed
 use Rattle.rules.specs.declared.Listed.{Listed}
-use Rattle.rules.specs.declared.Listed.TheVariants as Listed
 use Rattle.rules.specs.Outcome.{Outcome, done, refused, filled}
 use Rattle.rules.specs.Record.{Entry}
 use Rattle.rules.specs.Reading.{joined, spans_of}

@@ -1,7 +1,6 @@
 -- How the entries of the launch line cache lie in lent memory, and what its calls promise. Assumes nothing.
 use Rattle.std.specs.Prelude.{ℕ, ◌+◌, ◌≤◌, ◌≡◌, Bool, true, false, List, [], ◌∷◌, ◌++◌, length}
 use Rattle.rules.specs.declared.Cached.{Cached}
-use Rattle.rules.specs.declared.Cached.TheVariants as Cached
 use Rattle.rules.specs.Choice.{pick}
 use Rattle.rules.specs.Outcome.{Outcome, done, refused, over}
 use Rattle.rules.specs.Record.{Argument, arguments_of}

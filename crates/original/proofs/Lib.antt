@@ -1,0 +1,2 @@
+pub mod ForMakeBatCommandLine
+pub mod ForParseLpCmdLine
