@@ -1,0 +1,11 @@
+-- `adding::writing::append_form` meets its contract. Assumes nothing.
+use Rattle.adding.specs.Added.{rule_of}
+use Rattle.adding.proofs.writing.append_form.Goals as goal
+
+pub returns-then-style : goal.returns-then-style
+unfolding rule_of
+returns-then-style c = rw c.if-style.true c.append_bat_arg.ensures
+
+pub returns : goal.returns
+unfolding rule_of
+returns c = rw c.if-style.false c.append_arg.ensures
