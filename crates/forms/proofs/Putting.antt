@@ -13,11 +13,8 @@ use Rattle.rules.specs.Choice.{pick, both}
 use Rattle.forms.specs.Form.{step_of}
 use Rattle.forms.specs.Text.{Taken, taken, ill, behind, at_end, onward, units_from, each_of, is_braces, text_of, Filled}
 use Rattle.forms.specs.declared.steps.Spot.{Spot}
-use Rattle.forms.specs.declared.steps.Spot.TheVariants as Spot
 use Rattle.forms.specs.declared.steps.Step.{Step}
-use Rattle.forms.specs.declared.steps.Step.TheVariants as Step
 use Rattle.forms.specs.declared.texts.Filling.{Filling}
-use Rattle.forms.specs.declared.texts.Filling.TheVariants as Filling
 
 -- two fronts one behind the other
 pub behind_behind : (a b : List ℕ) (t : Taken (List ℕ)) → behind (a ++ b) t ≡ behind a (behind b t)

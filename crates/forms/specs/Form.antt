@@ -6,9 +6,7 @@ use Rattle.rules.specs.Choice.{pick, either, both, flip}
 use Rattle.rules.specs.Unit.{units, within, is_digit}
 use Rattle.octets.specs.Braced.{braced}
 use Rattle.forms.specs.declared.steps.Spot.{Spot}
-use Rattle.forms.specs.declared.steps.Spot.TheVariants as Spot
 use Rattle.forms.specs.declared.steps.Step.{Step}
-use Rattle.forms.specs.declared.steps.Step.TheVariants as Step
 
 -- ---- the bytes of units
 

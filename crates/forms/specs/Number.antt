@@ -4,7 +4,6 @@ use Rattle.rules.specs.Choice.{pick, both, flip}
 use Rattle.rules.specs.Unit.{is_digit}
 use Rattle.forms.specs.Text.{Taken, taken, ill}
 use Rattle.forms.specs.declared.numbers.Number.{Number}
-use Rattle.forms.specs.declared.numbers.Number.TheVariants as Number
 
 -- the byte is a digit, and the number with it is at most `most`
 unfoldable pub digit_fits : ℕ → ℕ → ℕ → Bool

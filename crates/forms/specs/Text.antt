@@ -3,11 +3,8 @@ use Rattle.std.specs.Prelude.{ℕ, ◌+◌, ◌≤◌, ◌≡◌, Bool, false, L
 use Rattle.rules.specs.Choice.{pick, both}
 use Rattle.forms.specs.Form.{step_of, is_plain, hex_value}
 use Rattle.forms.specs.declared.steps.Spot.{Spot}
-use Rattle.forms.specs.declared.steps.Spot.TheVariants as Spot
 use Rattle.forms.specs.declared.steps.Step.{Step}
-use Rattle.forms.specs.declared.steps.Step.TheVariants as Step
 use Rattle.forms.specs.declared.texts.Filling.{Filling}
-use Rattle.forms.specs.declared.texts.Filling.TheVariants as Filling
 
 -- what bytes come to: something, or they are not in its form
 pub data Taken (A : Type 0) : Type 0 where
