@@ -7,9 +7,7 @@ use Rattle.rules.specs.Record.{part}
 use Rattle.forms.specs.Form.{each, shown}
 use Rattle.replies.specs.declared.answers.Answer.{Answer}
 use Rattle.replies.specs.declared.answers.Manner.{Manner}
-use Rattle.replies.specs.declared.answers.Manner.TheVariants as Manner
 use Rattle.replies.specs.declared.answers.Word.{Word}
-use Rattle.replies.specs.declared.answers.Word.TheVariants as Word
 
 -- a number below 2 ^ 64 in decimal: it has at most 20 digits
 unfoldable pub decimal : ℕ → List ℕ
