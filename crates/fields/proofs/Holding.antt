@@ -13,10 +13,8 @@ use Rattle.fields.specs.Field.{Flat, follow, spanned, field_on, held_in, Pushed,
 use Rattle.forms.specs.declared.numbers.Number.TheVariants as Number
 use Rattle.forms.specs.declared.texts.Filling.TheVariants as Filling
 use Rattle.fields.specs.declared.taking.Field.{Field}
-use Rattle.fields.specs.declared.taking.Field.TheVariants as Field
 use Rattle.fields.specs.declared.taking.Held.{Held}
 use Rattle.fields.specs.declared.taking.Holding.{Holding}
-use Rattle.fields.specs.declared.taking.Holding.TheVariants as Holding
 
 -- ---- numbers
 

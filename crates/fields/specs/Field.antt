@@ -3,10 +3,8 @@ use Rattle.std.specs.Prelude.{ℕ, ◌+◌, ◌/◌, ◌%◌, ◌≤◌, ◌<◌
 use Rattle.forms.specs.Text.{Taken, taken, ill, text_of}
 use Rattle.forms.specs.Number.{number_of}
 use Rattle.fields.specs.declared.taking.Field.{Field}
-use Rattle.fields.specs.declared.taking.Field.TheVariants as Field
 use Rattle.fields.specs.declared.taking.Held.{Held}
 use Rattle.fields.specs.declared.taking.Holding.{Holding}
-use Rattle.fields.specs.declared.taking.Holding.TheVariants as Holding
 
 -- numbers, and a text that they name parts of
 pub record Flat : Type 0 where

@@ -1,0 +1,14 @@
+-- `fields::values::wide_at` meets its contract. Assumes nothing.
+use lib.ListN.{get_or-eq_default}
+use native.Mathlib.Omega.{arith}
+use Prim.Native.Nat.{◌+◌}
+use Rattle.fields.proofs.values.wide_at.Goals as goal
+
+pub returns-then-numbers-at : goal.returns-then-numbers-at
+returns-then-numbers-at c =
+    let a = get_or-eq_default c.args.numbers.now 0 {n = c.args.at} c.if-numbers-at.true in
+    let b = get_or-eq_default c.args.numbers.now 0 {n = c.args.at + 1} (omega arith) in
+    rw (a, b)
+
+pub returns : goal.returns
+returns c = rw (← c.number_at-high.ensures, ← c.number_at.ensures)
