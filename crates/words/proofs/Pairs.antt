@@ -11,7 +11,6 @@ use Rattle.fields.specs.Field.{Flat, field_on, held_in, Room, grows_in, Grew}
 use Rattle.fields.specs.declared.taking.Field.{Field}
 use Rattle.fields.specs.declared.taking.Held.{Held}
 use Rattle.fields.specs.declared.taking.Holding.{Holding}
-use Rattle.fields.specs.declared.taking.Holding.TheVariants as Holding
 use Rattle.words.specs.Shape.{colon_in, shape_at, shape_on}
 use Rattle.words.specs.declared.shapes.Shape.TheVariants as Shape
 

@@ -7,9 +7,7 @@ use Rattle.words.specs.Word.{words_of, words_at}
 use Rattle.fields.specs.Field.{Flat, follow, held_in, holding_said}
 use Rattle.words.specs.Shape.{shape_at, shape_on}
 use Rattle.fields.specs.declared.taking.Holding.{Holding}
-use Rattle.fields.specs.declared.taking.Holding.TheVariants as Holding
 use Rattle.words.specs.declared.lines.Line.{Line}
-use Rattle.words.specs.declared.lines.Line.TheVariants as Line
 
 -- ---- words by their letters
 

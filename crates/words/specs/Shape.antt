@@ -6,7 +6,6 @@ use Rattle.forms.specs.Text.{Taken, ill}
 use Rattle.fields.specs.Field.{Flat, follow, field_on}
 use Rattle.fields.specs.declared.taking.Field.TheVariants as Field
 use Rattle.words.specs.declared.shapes.Shape.{Shape}
-use Rattle.words.specs.declared.shapes.Shape.TheVariants as Shape
 
 -- the largest number of 32 bits
 abbrev pub most32 : ℕ
