@@ -12,7 +12,6 @@ use Rattle.rules.specs.Choice.{either, any, is_empty}
 use Rattle.rules.specs.Unit.{is_digit}
 use Rattle.laws.specs.Empty.{filled}
 use Rattle.terminal.specs.declared.numbers.Number.{Number}
-use Rattle.terminal.specs.declared.numbers.Number.TheVariants as Number
 use Rattle.terminal.specs.Number.{decimal_from, largest, is_no_digit, is_no_number, number_of}
 
 -- ---- digits

@@ -3,7 +3,6 @@ use Rattle.std.specs.Prelude.{ℕ, ◌+◌, ◌*◌, ◌-◌, Bool, true, false,
 use Rattle.rules.specs.Choice.{pick, either, flip, any, is_empty}
 use Rattle.rules.specs.Unit.{is_digit}
 use Rattle.terminal.specs.declared.numbers.Number.{Number}
-use Rattle.terminal.specs.declared.numbers.Number.TheVariants as Number
 use Rattle.terminal.specs.declared.numbers.Signed.{Signed}
 
 -- the number that digits stand for behind those that stand for n

@@ -3,7 +3,6 @@ use Rattle.std.specs.Prelude.{◌≡◌, refl, [], ◌∷◌, map}
 use Rattle.rules.specs.Unit.{units}
 use Rattle.laws.specs.Scan.{leading}
 use Rattle.terminal.specs.declared.numbers.Number.{Number}
-use Rattle.terminal.specs.declared.numbers.Number.TheVariants as Number
 use Rattle.terminal.specs.Utf8.{good_bytes, good_units}
 use Rattle.terminal.specs.Number.{number_of}
 use Rattle.terminal.specs.Word.{key_length}

@@ -7,7 +7,6 @@ use Rattle.rules.specs.Unit.{units, is_equals}
 use Rattle.laws.specs.Scan.{before}
 use Rattle.terminal.specs.Number.{largest}
 use Rattle.terminal.specs.declared.words.Command.{Command}
-use Rattle.terminal.specs.declared.words.Command.TheVariants as Command
 
 -- the command that a word names, of those that are asked about one word or none
 unfoldable pub small_command_of : List ℕ → Command
