@@ -3,12 +3,12 @@
 
 ghost use Rattle.std.specs.Prelude.{◌≤◌, length};
 
-use libc::STDOUT_FILENO;
 use octets::same;
+use std::io::Result;
 
 // Writes bytes to standard output.
-pub fn say(bytes: &[u8]) {
-    io::write_all(STDOUT_FILENO, bytes);
+pub fn say(rt: &impl Print, bytes: &[u8]) -> Result<()> {
+    rt.write_all(bytes)
 }
 
 // A unit as a byte; a unit above 255 is a question mark.
@@ -43,17 +43,23 @@ pub fn put_units(page: &mut [u8], at: usize, units: &[u16]) -> usize
 }
 
 // A verdict on an example, behind its name.
-pub fn verdict(verb: &[u8], name: &[u8], holds: bool) {
-    say(verb);
-    say(name);
+pub fn verdict(rt: &impl Print, verb: &[u8], name: &[u8], holds: bool) -> Result<()> {
+    say(rt, verb)?;
+    say(rt, name)?;
     if holds {
-        say(b": equal\n");
+        say(rt, b": equal\n")
     } else {
-        say(b": DIFFERS\n");
+        say(rt, b": DIFFERS\n")
     }
 }
 
 // The verdict where a page should hold these bytes.
-pub fn compare(verb: &[u8], name: &[u8], page: &[u8], stated: &[u8]) {
-    verdict(verb, name, same(page, stated));
+pub fn compare(
+    rt: &impl Print,
+    verb: &[u8],
+    name: &[u8],
+    page: &[u8],
+    stated: &[u8],
+) -> Result<()> {
+    verdict(rt, verb, name, same(page, stated))
 }
