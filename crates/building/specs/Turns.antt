@@ -12,7 +12,6 @@ use Rattle.std.proofs.Math.ListN.{length, length-append}
 use Rattle.std.proofs.lemmas.List.Edits.{sets}
 use Rattle.rules.specs.declared.Arg.{Arg}
 use Rattle.rules.specs.declared.Refusal.{Refusal}
-use Rattle.rules.specs.declared.Refusal.TheVariants as Refusal
 use Rattle.rules.specs.Choice.{pick, both, any}
 use Rattle.rules.specs.Unit.{is_nul}
 use Rattle.rules.specs.Outcome.{Outcome, done, refused, refuse, sound, wrong_if, fault_at, fault_from, first_fault, unless}

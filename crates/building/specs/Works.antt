@@ -3,9 +3,7 @@ use Rattle.std.specs.Prelude.{ℕ, ◌+◌, ◌≡◌, Bool, true, false, List, 
 use Rattle.std.proofs.lemmas.List.Edits.{sets}
 use Rattle.rules.specs.declared.Arg.{Arg}
 use Rattle.rules.specs.declared.Refusal.{Refusal}
-use Rattle.rules.specs.declared.Refusal.TheVariants as Refusal
 use Rattle.rules.specs.declared.Built.{Built}
-use Rattle.rules.specs.declared.Built.TheVariants as Built
 use Rattle.rules.specs.Answer.{refusal_number, refusal_place}
 use Rattle.rules.specs.Choice.{pick, both, any}
 use Rattle.rules.specs.Unit.{is_nul}

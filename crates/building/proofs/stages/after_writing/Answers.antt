@@ -1,0 +1,13 @@
+-- `building::stages::after_writing` meets its contract. Assumes nothing.
+use mathlib.Core.Bool.{false, true}
+use mathlib.Core.Path.{refl}
+use Rattle.building.proofs.Forms.{ended_in}
+use Rattle.building.proofs.stages.after_writing.Goals as goal
+
+pub returns-then-style : goal.returns-then-style
+returns-then-style c =
+    let a = c.args in
+    ended_in a.work a.out.now true c.if-style.true (rw (← c.count_on.ensures) c.finish.ensures) c.put.ensures
+
+pub returns : goal.returns
+returns c = ended_in c.args.work c.args.out.now false c.if-style.false c.finish-2.ensures refl
