@@ -1,11 +1,13 @@
 // A program's dialogue by lines: the lines of standard input one after another, and an answer to each on standard output.
 #![tactic(auto)]
 
-ghost use Rattle.std.specs.Prelude.{◌≤◌, ◌<◌, length};
+ghost use Rattle.std.specs.Prelude.{◌≤◌, ◌<◌, IfOk, length};
 ghost use Rattle.dialogue.specs.Turn.{Fits, Gathered};
 
 use replies::answers::{Answer, put_answer};
 use replies::places::Place;
+use std::io;
+use std::io::Read;
 
 // Where a dialogue stands: the bytes of the chunk that was read last which are still to be taken, how many bytes the line has, whether it is whole, and
 // how many bytes of the piece are taken by answers.
@@ -67,9 +69,16 @@ fn gather(t: Turn, chunk: &[u8], line: &mut [u8]) -> Turn
 
 // The next line. All answers are written out before the next chunk is waited for. A last line without a line feed counts. Where there is none, the line is
 // not whole.
-pub fn next_line(t: Turn, chunk: &mut [u8], line: &mut [u8], piece: &[u8]) -> Turn
+pub fn next_line<R: Read>(
+    rt: &impl Print,
+    input: &mut R,
+    t: Turn,
+    chunk: &mut [u8],
+    line: &mut [u8],
+    piece: &[u8],
+) -> io::Result<Turn>
     requires { Fits t (length chunk.old) (length line.old) (length piece.now) }
-    ensures { Fits result (length chunk.old) (length line.old) (length piece.now) }
+    ensures { IfOk result (λ r. Fits r (length chunk.old) (length line.old) (length piece.now)) }
 {
     let mut r = t;
     r.size = 0;
@@ -80,33 +89,34 @@ pub fn next_line(t: Turn, chunk: &mut [u8], line: &mut [u8], piece: &[u8]) -> Tu
         let end = r.end;
         r = gather(r, &chunk[..end], line);
         if r.whole {
-            return r;
+            return Ok(r);
         }
         let at = r.at;
-        io::write_all(1, &piece[..at]);
-        let n = io::count(libc::read(0, chunk), chunk);
+        rt.write_all(&piece[..at])?;
+        let n = input.read(chunk)?;
         r.at = 0;
         r.from = 0;
         r.end = n;
         if n == 0 {
             r.whole = r.size > 0;
-            return r;
+            return Ok(r);
         }
     }
-    r
+    Ok(r)
 }
 
 // Puts an answer into the piece, which is written out whenever it is full.
 pub fn show(
+    rt: &impl Print,
     t: Turn,
     a: Answer,
     out: &[u16],
     spans: &[u32],
     numbers: &[u32],
     piece: &mut [u8],
-) -> Turn
+) -> io::Result<Turn>
     requires { t.at < length piece.old }
-    ensures { (result.at < length piece.old) × (result.end ≤ t.end) × (result.size ≤ t.size) }
+    ensures { IfOk result (λ r. (r.at < length piece.old) × (r.end ≤ t.end) × (r.size ≤ t.size)) }
 {
     let mut r = t;
     let mut skip = 0;
@@ -115,12 +125,12 @@ pub fn show(
         let p = put_answer(piece, Place { skip, at }, a, out, spans, numbers);
         if p.at < piece.len() {
             r.at = p.at;
-            return r;
+            return Ok(r);
         }
-        io::write_all(1, piece);
+        rt.write_all(piece)?;
         skip += piece.len() - at;
         at = 0;
     }
     r.at = 0;
-    r
+    Ok(r)
 }
