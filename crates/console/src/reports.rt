@@ -1,137 +1,137 @@
 // What is written to standard output. A call that fails writes `error` or `refused` first.
 use crate::room;
-use libc::STDOUT_FILENO;
 use shown::show;
+use std::io::Result;
 
 // Bytes as they are.
-pub fn say(bytes: &[u8]) {
-    io::write_all(STDOUT_FILENO, bytes);
+pub fn say(rt: &impl Print, bytes: &[u8]) -> Result<()> {
+    rt.write_all(bytes)
 }
 
 // A number in decimal.
-pub fn say_number(number: usize) {
-    io::print_decimal(STDOUT_FILENO, number as u64);
+pub fn say_number(rt: &impl Print, number: usize) -> Result<()> {
+    rt.print(number)
 }
 
 // How many units there are.
-fn say_units(count: usize) {
-    say_number(count);
+fn say_units(rt: &impl Print, count: usize) -> Result<()> {
+    say_number(rt, count)?;
     if count == 1 {
-        say(b" unit");
+        say(rt, b" unit")
     } else {
-        say(b" units");
+        say(rt, b" units")
     }
 }
 
 // The front of a page, or that the page was too small for what stands there.
-fn say_front(page: &[u8], count: usize) {
+fn say_front(rt: &impl Print, page: &[u8], count: usize) -> Result<()> {
     if page.len() < count {
-        say(b"(too long to show)");
-        return;
+        return say(rt, b"(too long to show)");
     }
-    say(&page[..count]);
+    say(rt, &page[..count])
 }
 
 // Units as they are shown, on the page that has room for the longest block.
-fn say_long(units: &[u16]) {
+fn say_long(rt: &impl Print, units: &[u16]) -> Result<()> {
     let mut page = room::page();
     let count = show(units, &mut page);
-    say_front(&page, count);
+    say_front(rt, &page, count)
 }
 
 // Units as they are shown. Most texts are short, and a small page is made sooner than a large one.
-fn say_text(units: &[u16]) {
+fn say_text(rt: &impl Print, units: &[u16]) -> Result<()> {
     if 600 < units.len() {
-        say_long(units);
-        return;
+        return say_long(rt, units);
     }
     let mut page = [0u8; 3600];
     let count = show(units, &mut page);
-    say_front(&page, count);
+    say_front(rt, &page, count)
 }
 
 // What a result is, how long it is, and the result on a line of its own.
-pub fn say_result(what: &[u8], units: &[u16]) {
-    say(what);
-    say(b", ");
-    say_units(units.len());
-    say(b":\n");
-    say_text(units);
-    say(b"\n");
+pub fn say_result(rt: &impl Print, what: &[u8], units: &[u16]) -> Result<()> {
+    say(rt, what)?;
+    say(rt, b", ")?;
+    say_units(rt, units.len())?;
+    say(rt, b":\n")?;
+    say_text(rt, units)?;
+    say(rt, b"\n")
 }
 
 // Units in brackets, so that blanks at their ends show, and the line's end.
-pub fn say_bracketed(units: &[u16]) {
-    say(b"[");
-    say_text(units);
-    say(b"]\n");
+pub fn say_bracketed(rt: &impl Print, units: &[u16]) -> Result<()> {
+    say(rt, b"[")?;
+    say_text(rt, units)?;
+    say(rt, b"]\n")
 }
 
 // An argument.
-pub fn say_argument(index: usize, units: &[u16]) {
-    say(b"argument ");
-    say_number(index);
-    say(b", ");
-    say_units(units.len());
-    say(b": ");
-    say_bracketed(units);
+pub fn say_argument(rt: &impl Print, index: usize, units: &[u16]) -> Result<()> {
+    say(rt, b"argument ")?;
+    say_number(rt, index)?;
+    say(rt, b", ")?;
+    say_units(rt, units.len())?;
+    say(rt, b": ")?;
+    say_bracketed(rt, units)
 }
 
 // An entry, in brackets too: key and value have their `=` between them.
-pub fn say_entry(number: usize, key: &[u16], value: &[u16]) {
-    say(b"entry ");
-    say_number(number);
-    say(b": [");
-    say_text(key);
-    say(b"=");
-    say_text(value);
-    say(b"]\n");
+pub fn say_entry(rt: &impl Print, number: usize, key: &[u16], value: &[u16]) -> Result<()> {
+    say(rt, b"entry ")?;
+    say_number(rt, number)?;
+    say(rt, b": [")?;
+    say_text(rt, key)?;
+    say(rt, b"=")?;
+    say_text(rt, value)?;
+    say(rt, b"]\n")
 }
 
 // What stands behind the units that are used.
-pub fn say_behind(units: &[u16]) {
+pub fn say_behind(rt: &impl Print, units: &[u16]) -> Result<()> {
     if units.len() == 0 {
-        say(b", nothing stands behind them\n");
-        return;
+        return say(rt, b", nothing stands behind them\n");
     }
-    say_result(b"\nbehind them", units);
+    say_result(rt, b"\nbehind them", units)
 }
 
 // What is wrong with a word of the call, counted from the command on.
-pub fn say_error(index: usize, what: &[u8]) {
-    say(b"error: word ");
-    say_number(index);
-    say(what);
+pub fn say_error(rt: &impl Print, index: usize, what: &[u8]) -> Result<()> {
+    say(rt, b"error: word ")?;
+    say_number(rt, index)?;
+    say(rt, what)
 }
 
 // A word for which there is no room. The tool has room for more than the longest line or block.
-pub fn no_room(index: usize) {
+pub fn no_room(rt: &impl Print, index: usize) -> Result<()> {
     say_error(
+        rt,
         index,
         b" is too much: the words together are more than any line or block may hold\n",
-    );
+    )
 }
 
 // A word that is no UTF-8: what is read of it, and how many bytes that is.
-pub fn no_utf8(index: usize, front: &[u16], bytes: usize) {
-    say_error(index, b" is no UTF-8: no character begins at its byte ");
-    say_number(bytes);
-    say(b", behind ");
-    say_bracketed(front);
+pub fn no_utf8(rt: &impl Print, index: usize, front: &[u16], bytes: usize) -> Result<()> {
+    say_error(rt, index, b" is no UTF-8: no character begins at its byte ")?;
+    say_number(rt, bytes)?;
+    say(rt, b", behind ")?;
+    say_bracketed(rt, front)
 }
 
 // A word that is no entry.
-pub fn no_entry(index: usize, units: &[u16]) {
+pub fn no_entry(rt: &impl Print, index: usize, units: &[u16]) -> Result<()> {
     say_error(
+        rt,
         index,
         b" is no entry: there is no = behind the first unit of ",
-    );
-    say_bracketed(units);
+    )?;
+    say_bracketed(rt, units)
 }
 
 // What the tool does.
-pub fn help() {
+pub fn help(rt: &impl Print) -> Result<()> {
     say(
+        rt,
         b"Command lines, batch lines and environment blocks for Windows processes, written and read.
 
   lines read LINE                       the arguments that a command line is read as
@@ -147,5 +147,5 @@ Words are UTF-8 and become UTF-16 units, which is what lengths count. --force pu
 A dump is the units' bytes, two each, the low one first; FILE is - where it comes by standard input.
 A unit that cannot be seen is shown as {hex}, and so are { and }: a tab is {9}, a NUL {0}.
 ",
-    );
+    )
 }
