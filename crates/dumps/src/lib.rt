@@ -5,10 +5,17 @@ ghost use Rattle.std.specs.Prelude.{◌≡◌, ◌+◌, ◌*◌, ◌≤◌, leng
 ghost use Rattle.std.proofs.lemmas.List.Edits.{sets};
 ghost use Rattle.dumps.specs.Dumped.{dumped};
 
+pub mod causes;
+
+use causes::{EINVAL, ENAMETOOLONG, NO_UTF8};
 use octets::same;
+use std::env::FillError;
+use std::io::Read;
+use std::rt::{Env, Files};
+use std::{fs, io, str};
 use stores::put;
 
-// How many bytes were read, and 0 or the system's number for what went wrong.
+// How many bytes were read, and 0 or the number of what went wrong, the system's or `NO_UTF8`.
 #[derive(Clone, Copy)]
 pub struct Got {
     pub bytes: usize,
@@ -36,30 +43,38 @@ pub fn units_of(bytes: &[u8], out: &mut [u16]) -> usize
     to
 }
 
+// The system's number for an error. An error of std's own is about a path that the system would not take.
+fn number_of(error: io::Error) -> i32 {
+    error.raw_os_error().unwrap_or(EINVAL)
+}
+
+// A dump that cannot be read.
+fn failed(error: i32) -> Got
+    ensures { result.bytes ≡ 0 }
+{
+    Got { bytes: 0, error }
+}
+
 // One read to the front of what is lent. No bytes and no error: the end.
-fn read_some(fd: i32, bytes: &mut [u8]) -> Got
+fn read_some(from: &mut impl Read, bytes: &mut [u8]) -> Got
     ensures { result.bytes ≤ length bytes.old }
 {
-    let got = libc::read(fd, bytes);
-    if got < 0 {
-        return Got {
-            bytes: 0,
-            error: os::errno(),
-        };
-    }
-    Got {
-        bytes: io::count(got, bytes),
-        error: 0,
+    match from.read(bytes) {
+        Ok(count) => Got {
+            bytes: count,
+            error: 0,
+        },
+        Err(error) => failed(number_of(error)),
     }
 }
 
 // Reads to the end, or until what is lent is full. A pipe hands over a part at a time.
-fn read_all(fd: i32, bytes: &mut [u8]) -> Got
+fn read_all(from: &mut impl Read, bytes: &mut [u8]) -> Got
     ensures { result.bytes ≤ length bytes.old }
 {
     let mut done = 0;
     while done < bytes.len() {
-        let got = read_some(fd, &mut bytes[done..]);
+        let got = read_some(from, &mut bytes[done..]);
         if got.bytes == 0 {
             return Got {
                 bytes: done,
@@ -74,36 +89,37 @@ fn read_all(fd: i32, bytes: &mut [u8]) -> Got
     }
 }
 
-// A dump that cannot be read.
-fn failed(error: i32) -> Got
-    ensures { result.bytes ≡ 0 }
+// Reads the dump in the file of a name.
+fn read_file(rt: &impl Files, name: &str, bytes: &mut [u8]) -> Got
+    ensures { result.bytes ≤ length bytes.old }
 {
-    Got { bytes: 0, error }
+    match fs::open(rt, name) {
+        Ok(mut file) => read_all(&mut file, bytes),
+        Err(error) => failed(number_of(error)),
+    }
 }
 
-// Reads the dump that a path names, or standard input where it is `-`.
-fn read_path(path: &[u8], bytes: &mut [u8]) -> Got
+// Reads the dump that a path names, or standard input where it is `-`. Only a path in UTF-8 can be opened.
+fn read_path(rt: &(impl Files + Input), path: &[u8], bytes: &mut [u8]) -> Got
     ensures { result.bytes ≤ length bytes.old }
 {
     if same(path, b"-") {
-        return read_all(libc::STDIN_FILENO, bytes);
+        return read_all(&mut rt.reader(), bytes);
     }
-    let fd = os::open_read(path);
-    if fd < 0 {
-        return failed(os::errno());
+    match str::from_utf8(path) {
+        Ok(name) => read_file(rt, name, bytes),
+        Err(_) => failed(NO_UTF8),
     }
-    read_all(fd, bytes)
 }
 
 // Reads the dump that a word of the call names.
-pub fn read_word(index: usize, bytes: &mut [u8]) -> Got
+pub fn read_word(rt: &(impl Env + Files + Input), index: usize, bytes: &mut [u8]) -> Got
     ensures { result.bytes ≤ length bytes.old }
 {
-    let mut path = io::buffer();
-    let n = os::arg(index, &mut path);
-    let error = os::errno();
-    if error != 0 {
-        return failed(error);
+    let mut path = [0u8; 4096];
+    match rt.arg(index, &mut path) {
+        Ok(n) => read_path(rt, &path[..n], bytes),
+        Err(FillError::NotPresent) => failed(EINVAL),
+        Err(FillError::TooLong) => failed(ENAMETOOLONG),
     }
-    read_path(&path[..n], bytes)
 }
