@@ -8,9 +8,7 @@ use Rattle.rules.specs.Answer.{Said, Answered, entries_said, outcome_entry_spans
 use Rattle.rules.specs.Cache.{Served, missed, hit, held, stored}
 use Rattle.replies.specs.declared.answers.Answer.{Answer}
 use Rattle.replies.specs.declared.answers.Manner.{Manner}
-use Rattle.replies.specs.declared.answers.Manner.TheVariants as Manner
 use Rattle.replies.specs.declared.answers.Word.{Word}
-use Rattle.replies.specs.declared.answers.Word.TheVariants as Word
 use Rattle.sayings.specs.declared.Saying.{Saying}
 
 -- the same in the document's numbers
