@@ -1,0 +1,15 @@
+-- The invariant and the measure of `slices::make_line_of`. Assumes nothing.
+use mathlib.Core.Path.{◌≡◌}
+use lib.ListN.{length}
+use Rattle.rules.specs.Building.{either_line}
+use Rattle.rules.specs.Record.{flat_of}
+use Rattle.building.specs.Turns.{Stands, turns_left}
+use Rattle.slices.proofs.make_line_of.Given as goal
+
+abbrev pub invariant-loop-work : goal.invariant-loop-work
+invariant-loop-work l =
+    Stands (either_line l.batch l.force_quotes l.lent (flat_of l.args) l.text (length l.initial.out)) l.lent l.text l.args l.initial.out l.work l.out × (length l.out ≡ length l.initial.out)
+
+abbrev pub decreases-loop-work : goal.decreases-loop-work
+decreases-loop-work l =
+    turns_left (either_line l.batch l.force_quotes l.lent (flat_of l.args) l.text (length l.initial.out)) l.lent l.text l.args l.initial.out l.work
