@@ -1,4 +1,4 @@
--- Units that are written as they are, slashesBehind by eights; an argument of such units alone. Assumes nothing.
+-- Units that are written as they are, found by eights; an argument of such units alone. Assumes nothing.
 use Prim.Native.Nat.{ℕ, ◌+◌, ◌-◌, ◌≤◌, ◌<◌, zero-le}
 use native.Mathlib.Omega.{arith}
 use borrow.Author.Tests.{ne_eqb}

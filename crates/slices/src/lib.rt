@@ -10,7 +10,7 @@ use building::{turns, works};
 use rules::{Arg, Built};
 use units::classes;
 
-// Builds a line of either kind. The one loop of this crate: each turn is a covered one, and hands on the state by value.
+// Builds a line of either kind. The one loop of this crate: each turn hands on the state by value.
 fn make_line_of(
     batch: bool,
     lent: &[u16],
@@ -65,7 +65,7 @@ pub fn make_bat_command_line_of(
     make_line_of(true, script, args, text, force_quotes, out)
 }
 
-// For tests: four records by value, lent to `make_command_line_of` as a slice. A program that is proved by itself can make no slice of structs.
+// For tests: four records by value, lent to `make_command_line_of` as a slice.
 pub fn make_command_line_of_four(
     program: &[u16],
     args: [Arg; 4],
