@@ -1,7 +1,7 @@
 -- `append_arg`, statement by statement. Assumes nothing.
 -- Behind each line stands where it is in the Rust: `args` is sys/args/windows.rs.
-use Rattle.std.specs.Prelude.{ℕ, ◌+◌, Bool, true, false, List, [], ◌∷◌}
-use Rattle.original.specs.Language.{if◌then◌else◌, ◌==◌, ◌||◌, u16}
+use Rattle.std.specs.Prelude.{ℕ, ◌+◌, Bool, true, false, List, [], ◌∷◌, if◌then◌else◌, ◌==◌, ◌||◌}
+use Rattle.original.specs.Language.{u16}
 use Rattle.original.specs.Shims.{Result, Ok, ensure_no_nuls, push, extend, times, is-empty, iter_any, as_encoded_bytes, encode_wide, ◌>>=◌}
 
 -- `enum Arg`

@@ -1,7 +1,7 @@
 -- `append_bat_arg`, statement by statement. Assumes nothing.
 -- Behind each line stands where it is in the Rust: `args` is sys/args/windows.rs.
-use Rattle.std.specs.Prelude.{ℕ, ◌+◌, Bool, true, List, [], ◌∷◌}
-use Rattle.original.specs.Language.{if◌then◌else◌, if-let-Some◌of◌else◌, ◌==◌, ◌==Some◌, ◌&&◌, ◌||◌, !◌, u16}
+use Rattle.std.specs.Prelude.{ℕ, ◌+◌, Bool, true, List, [], ◌∷◌, if◌then◌else◌, ◌==◌, ◌&&◌, ◌||◌}
+use Rattle.original.specs.Language.{if-let-Some◌of◌else◌, ◌==Some◌, !◌, u16}
 use Rattle.original.specs.Shims.{Result, Ok, ensure_no_nuls, push, extend, times, is-empty, contains, last, str, is_ascii, is_ascii_alphanumeric, is_control, as_encoded_bytes, encode_wide, code_points, to_char, ◌>>=◌}
 
 -- `UNQUOTED`: args 237

@@ -1,8 +1,8 @@
 -- `ExitStatus`: `code` and `Display`. Assumes nothing.
 -- Behind each line stands where it is in the Rust: `process` is sys/process/windows.rs.
-use Rattle.std.specs.Prelude.{ℕ, List, ◌++◌, ℤ}
+use Rattle.std.specs.Prelude.{ℕ, List, ◌++◌, ℤ, if◌then◌else◌, ◌==◌}
 use Rattle.std.proofs.Math.Option.{Option, some}
-use Rattle.original.specs.Language.{if◌then◌else◌, ◌==◌, !◌, as_i32, and_high_bit}
+use Rattle.original.specs.Language.{ !◌, as_i32, and_high_bit}
 use Rattle.original.specs.Shims.{str, formatted, display, lower_hex}
 
 -- `code`

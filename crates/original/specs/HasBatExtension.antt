@@ -1,8 +1,7 @@
 -- The closure `has_bat_extension`. Assumes nothing.
 -- Behind each line stands where it is in the Rust: `process` is sys/process/windows.rs.
-use Rattle.std.specs.Prelude.{ℕ, Bool, false, List, [], ◌∷◌, length}
+use Rattle.std.specs.Prelude.{ℕ, Bool, false, List, [], ◌∷◌, length, ◌==◌, ◌&&◌, ◌||◌}
 use Rattle.std.proofs.Math.Option.{Option, none, some}
-use Rattle.original.specs.Language.{◌==◌, ◌&&◌, ◌||◌}
 use Rattle.original.specs.Shims.{and_then, checked_sub, get_from}
 
 -- `matches!`: two patterns of four units each, and in each of them three alternations of two

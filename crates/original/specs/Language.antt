@@ -1,39 +1,19 @@
 -- What stands for the Rust's language: tests, casts, `if let`, loops with `break`. Assumes nothing.
--- Borrowed from `rules` (Choice): `pick`, `either`, `both` and `flip`, by which the rules make their own tests.
-use Rattle.std.specs.Prelude.{ℕ, ◌/◌, ◌%◌, ◌*◌, Bool, false, eqb, ℤ, pos, ◌-ℤ◌}
+-- `if`, `==` on numbers, `&&` and `||` are the library's own. Borrowed from `rules` (Choice): `flip`, by which the rules make their own tests.
+use Rattle.std.specs.Prelude.{ℕ, ◌/◌, ◌%◌, ◌*◌, Bool, false, ◌==◌, ℤ, pos, ◌-ℤ◌}
 use Prim.Native.Char.{Char, code}
 use Rattle.std.proofs.Math.Option.{Option, none, some}
-use Rattle.rules.specs.Choice.{pick, either, both, flip}
+use Rattle.rules.specs.Choice.{flip}
 
-infix 5 if◌then◌else◌
 infix 5 if-let-Some◌of◌else◌
-infix 60 ◌==◌
 infix 60 ◌==Some◌
-infixr 40 ◌&&◌
-infixr 35 ◌||◌
 infix 50 !◌
 -- ---- tests
-
--- `if`
-abbrev pub if◌then◌else◌ {ℓ} : {A : Type ℓ} → Bool → A → A → A
-if b then x else y = pick b x y
-
--- `==` on numbers
-abbrev pub ◌==◌ : ℕ → ℕ → Bool
-m == n = eqb m n
 
 -- `o == Some(n)`
 abbrev pub ◌==Some◌ : Option ℕ → ℕ → Bool
 none ==Some n = false
 some m ==Some n = m == n
-
--- `&&`
-abbrev pub ◌&&◌ : Bool → Bool → Bool
-a && b = both a b
-
--- `||`
-abbrev pub ◌||◌ : Bool → Bool → Bool
-a || b = either a b
 
 -- `!`
 abbrev pub !◌ : Bool → Bool

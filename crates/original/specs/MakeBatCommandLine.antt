@@ -1,7 +1,7 @@
 -- `make_bat_command_line`, statement by statement. Assumes nothing.
 -- Behind each line stands where it is in the Rust: `args` is sys/args/windows.rs.
-use Rattle.std.specs.Prelude.{ℕ, Bool, List, [], ◌∷◌}
-use Rattle.original.specs.Language.{◌==Some◌, ◌||◌, u16}
+use Rattle.std.specs.Prelude.{ℕ, Bool, List, [], ◌∷◌, ◌||◌}
+use Rattle.original.specs.Language.{◌==Some◌, u16}
 use Rattle.original.specs.Shims.{Result, Ok, invalid_argument, invalid_script, when◌return-Err◌, push, extend, iter_any, contains, last, strip_suffix, unwrap_or, str, as_encoded_bytes, ◌>>=◌}
 use Rattle.original.specs.AppendArg.{Arg, Regular, Raw, append_arg}
 use Rattle.original.specs.AppendBatArg.{append_bat_arg}

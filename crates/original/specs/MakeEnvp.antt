@@ -1,9 +1,9 @@
 -- `make_envp`, statement by statement, and the order of the map that it is given. Assumes nothing.
 -- Behind each line stands where it is in the Rust: `process` is sys/process/windows.rs.
-use Rattle.std.specs.Prelude.{ℕ, List, [], ◌∷◌}
+use Rattle.std.specs.Prelude.{ℕ, List, [], ◌∷◌, if◌then◌else◌}
 use Rattle.std.proofs.Math.Option.{Option, none, some}
 use Rattle.rules.specs.Record.{Entry}
-use Rattle.original.specs.Language.{if◌then◌else◌, u16}
+use Rattle.original.specs.Language.{u16}
 use Rattle.original.specs.Shims.{Result, Ok, ensure_no_nuls, push, extend, is-empty, encode_wide, Compare, compare_string_ordinal, ◌>>=◌}
 
 -- `Ord` of `EnvKey`, over how Windows folds the case of a unit. Left out is process 89, a panic where Windows fails to compare.

@@ -1,6 +1,6 @@
 -- Why each hypothesis of the theorems is there: a smallest input outside it, where the two sides of the theorem part. Assumes nothing.
 -- Smallest is by the number of records, then of lent units, then of lent room and places.
-use Rattle.std.specs.Prelude.{ℕ, ◌+◌, ◌-◌, ◌≡◌, refl, true, false, List, [], ◌∷◌, ◌++◌, replicate, pos, neg_ℤ}
+use Rattle.std.specs.Prelude.{ℕ, ◌+◌, ◌-◌, ◌≡◌, refl, true, false, List, [], ◌∷◌, ◌++◌, replicate, pos, neg_ℤ, ◌==◌}
 use Rattle.std.proofs.Math.Option.{some}
 use Rattle.rules.specs.Choice.{pick, any}
 use Rattle.rules.specs.Unit.{units, within, nul, carriage_return, quote, equals}
@@ -10,7 +10,6 @@ use Rattle.rules.specs.Building.{line_limit, nul_finding, batch_limit, batch_fro
 use Rattle.rules.specs.Block.{environment_block}
 use Rattle.rules.specs.Reading.{reading}
 use Rattle.rules.specs.Status.{signed_code, status_outcome}
-use Rattle.original.specs.Language.{◌==◌}
 use Rattle.original.specs.Shims.{Ok, w_str_units, as_encoded_bytes, btree_map}
 use Rattle.original.specs.AppendArg.{Regular}
 use Rattle.original.specs.AppendBatArg.{append_bat_arg}

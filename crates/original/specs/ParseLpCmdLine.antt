@@ -1,8 +1,8 @@
 -- `parse_lp_cmd_line`, statement by statement. Assumes nothing.
 -- Behind each line stands where it is in the Rust: `args` is sys/args/windows.rs.
-use Rattle.std.specs.Prelude.{ℕ, zero, suc, ◌+◌, ◌/◌, ◌%◌, Bool, true, false, List, [], ◌∷◌, length}
+use Rattle.std.specs.Prelude.{ℕ, zero, suc, ◌+◌, ◌/◌, ◌%◌, Bool, true, false, List, [], ◌∷◌, length, if◌then◌else◌, ◌==◌, ◌&&◌, ◌||◌}
 use Rattle.std.proofs.Math.Option.{Option, none, some}
-use Rattle.original.specs.Language.{if◌then◌else◌, ◌==◌, ◌==Some◌, ◌&&◌, ◌||◌, !◌, u16, ControlFlow, Continue, Break, go_on}
+use Rattle.original.specs.Language.{◌==Some◌, !◌, u16, ControlFlow, Continue, Break, go_on}
 use Rattle.original.specs.Shims.{is_none, and_then, unwrap, non_zero, push, extend, times, is-empty, from_wide, peek, next, advance_while}
 
 -- `BACKSLASH`

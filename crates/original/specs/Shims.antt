@@ -3,13 +3,13 @@
 -- Units are `u16` in the Rust; no definition and no theorem here needs that they are below 65,536.
 -- Borrowed from `rules`: `any` and `is_empty` (Choice), `units` and `within` (Unit), `Entry` (Record).
 -- Nothing stands for what changes no value: `as_ref`, `as_inner`, `iter`, `collect`, `NonZero::get`.
-use Rattle.std.specs.Prelude.{ℕ, zero, suc, ◌+◌, ◌-◌, ◌*◌, ◌/◌, ◌%◌, Bool, true, false, List, [], ◌∷◌, ◌++◌, leb, ltb, length, drop, replicate}
+use Rattle.std.specs.Prelude.{ℕ, zero, suc, ◌+◌, ◌-◌, ◌*◌, ◌/◌, ◌%◌, Bool, true, false, List, [], ◌∷◌, ◌++◌, leb, ltb, length, drop, replicate, if◌then◌else◌, ◌==◌, ◌&&◌, ◌||◌}
 use Prim.Native.String.{String}
 use Rattle.std.proofs.Math.Option.{Option, none, some}
 use Rattle.rules.specs.Choice.{any, is_empty}
 use Rattle.rules.specs.Unit.{units, within}
 use Rattle.rules.specs.Record.{Entry}
-use Rattle.original.specs.Language.{if◌then◌else◌, ◌==◌, ◌&&◌, ◌||◌, u16}
+use Rattle.original.specs.Language.{u16}
 
 infixl 20 ◌>>=◌
 infix 5 when◌return-Err◌
