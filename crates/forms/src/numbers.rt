@@ -48,6 +48,7 @@ fn digits_of(word: &[u8], most: u64) -> Number
 }
 
 // Whether a word can be a number: it is not empty, and a 0 in front stands alone.
+#[tactic(auto, using(crate::proofs::Scanning::no_numeral, crate::proofs::Scanning::short_numeral, crate::proofs::Scanning::longer_numeral))]
 fn is_numeral(word: &[u8]) -> bool
     ensures { result ≡ is_numeral word.now }
 {
