@@ -6,7 +6,18 @@ ghost use Rattle.terminal.specs.Word.{small_command_of, command_of, is_force, ke
 
 use octets::same;
 use scans::find_near;
+use std::env::{Env, FillError};
 use stores::put_number;
+
+// How many words a call has, the name of the tool among them.
+pub fn arg_count(rt: &impl Env) -> usize {
+    for i in 0..usize::MAX {
+        if let Err(FillError::NotPresent) = rt.arg(i, &mut []) {
+            return i;
+        }
+    }
+    usize::MAX
+}
 
 // What a call asks for.
 #[derive(Clone, Copy)]
