@@ -1,13 +1,15 @@
 // The words of the call, taken from UTF-8 into one text, with a record for each.
 #![tactic(auto)]
 
-ghost use Rattle.std.specs.Prelude.{◌≡◌, ◌+◌, ◌<◌, ◌≤◌, ◌^◌, true, length};
+ghost use Rattle.std.specs.Prelude.{◌≡◌, ◌+◌, ◌<◌, ◌≤◌, ◌^◌, true, length, IfOk};
 
 use console::reports::{no_entry, no_room, no_utf8, say, say_error};
 use console::room;
+use std::io::Result;
+use std::rt::Env;
 use stores::put_number;
 use terminal::utf8::decode;
-use terminal::words::{is_force, key_length, put_span};
+use terminal::words::{arg_count, is_force, key_length, put_span};
 
 // How many units a word gave; where it is not fine, that was said.
 #[derive(Clone, Copy)]
@@ -35,13 +37,12 @@ pub struct Call {
 }
 
 // Whether the word behind the command asks for quotes.
-fn is_forced() -> bool {
+fn is_forced(rt: &impl Env) -> bool {
     let mut word = room::word();
-    let n = os::arg(2, &mut word);
-    if os::errno() != 0 {
-        return false;
+    match rt.arg(2, &mut word) {
+        Ok(n) => is_force(&word[..n]),
+        Err(_) => false,
     }
-    is_force(&word[..n])
 }
 
 // No word.
@@ -55,36 +56,43 @@ fn took_none() -> Took
 }
 
 // The units of a word into the text, from a place on.
-fn take_bytes(index: usize, word: &[u8], text: &mut [u16], at: usize) -> Took
+fn take_bytes(
+    rt: &impl Print,
+    index: usize,
+    word: &[u8],
+    text: &mut [u16],
+    at: usize,
+) -> Result<Took>
     requires { at ≤ length text.old }
-    ensures { at + result.units ≤ length text.old }
+    ensures { IfOk result (λ took. at + took.units ≤ length text.old) }
 {
     let taken = decode(word, &mut text[at..]);
     let units = taken.units;
     if text.len() - at < units {
-        no_room(index);
-        return took_none();
+        no_room(rt, index)?;
+        return Ok(took_none());
     }
     if taken.bytes < word.len() {
         let end = at + units;
-        no_utf8(index, &text[at..end], taken.bytes);
-        return took_none();
+        no_utf8(rt, index, &text[at..end], taken.bytes)?;
+        return Ok(took_none());
     }
-    Took { fine: true, units }
+    Ok(Took { fine: true, units })
 }
 
 // A word of the call into the text, from a place on. It is read to an array of its own, which has room for the longest word that Linux hands over.
-pub fn take_word(index: usize, text: &mut [u16], at: usize) -> Took
+pub fn take_word(rt: &(impl Env + Print), index: usize, text: &mut [u16], at: usize) -> Result<Took>
     requires { at ≤ length text.old }
-    ensures { at + result.units ≤ length text.old }
+    ensures { IfOk result (λ took. at + took.units ≤ length text.old) }
 {
     let mut word = room::word();
-    let n = os::arg(index, &mut word);
-    if os::errno() != 0 {
-        say_error(index, b" has more bytes than Linux hands over\n");
-        return took_none();
+    match rt.arg(index, &mut word) {
+        Ok(n) => take_bytes(rt, index, &word[..n], text, at),
+        Err(_) => {
+            say_error(rt, index, b" has more bytes than Linux hands over\n")?;
+            Ok(took_none())
+        }
     }
-    take_bytes(index, &word[..n], text, at)
 }
 
 // Where the next word and its record come. No record has its end at 0, so 0 numbers say that the word is not gathered.
@@ -99,16 +107,23 @@ fn spot_of(at: usize, numbers: usize) -> Spot
 }
 
 // The record of a word in the text as an argument: kind, start and length. The answer is its end, or 0 where there is no place, which is said.
-fn put_argument(index: usize, at: usize, units: usize, table: &mut [u32], numbers: usize) -> usize
+fn put_argument(
+    rt: &impl Print,
+    index: usize,
+    at: usize,
+    units: usize,
+    table: &mut [u32],
+    numbers: usize,
+) -> Result<usize>
     requires { numbers ≤ length table.old }
-    ensures { result ≤ length table.old }
+    ensures { IfOk result (λ end. end ≤ length table.old) }
 {
     put_number(table, numbers, 0);
     if !put_span(table, numbers + 1, at, units) {
-        no_room(index);
-        return 0;
+        no_room(rt, index)?;
+        return Ok(0);
     }
-    numbers + 3
+    Ok(numbers + 3)
 }
 
 // Start and length of an entry's key and of its value, behind the `=`, if they have a place in the table.
@@ -125,71 +140,85 @@ fn put_key_and_value(at: usize, key: usize, units: usize, table: &mut [u32], num
 // The record of a word in the text as an entry: start and length of key and value. The answer is its end, or 0 where the word is no entry or
 // there is no place, which is said.
 fn put_entry(
+    rt: &impl Print,
     index: usize,
     text: &[u16],
     at: usize,
     units: usize,
     table: &mut [u32],
     numbers: usize,
-) -> usize
+) -> Result<usize>
     requires { (at + units ≤ length text.now) × (numbers ≤ length table.old) }
-    ensures { result ≤ length table.old }
+    ensures { IfOk result (λ end. end ≤ length table.old) }
 {
     let end = at + units;
     let word = &text[at..end];
     let key = key_length(word);
     if units <= key {
-        no_entry(index, word);
-        return 0;
+        no_entry(rt, index, word)?;
+        return Ok(0);
     }
     if !put_key_and_value(at, key, units, table, numbers) {
-        no_room(index);
-        return 0;
+        no_room(rt, index)?;
+        return Ok(0);
     }
-    numbers + 4
+    Ok(numbers + 4)
 }
 
 // One word more, as an entry or as an argument.
-fn add_word(entries: bool, index: usize, spot: Spot, text: &mut [u16], table: &mut [u32]) -> Spot
+fn add_word(
+    rt: &(impl Env + Print),
+    entries: bool,
+    index: usize,
+    spot: Spot,
+    text: &mut [u16],
+    table: &mut [u32],
+) -> Result<Spot>
     requires { (spot.at ≤ length text.old) × (spot.numbers ≤ length table.old) }
-    ensures { (result.at ≤ length text.old) × (result.numbers ≤ length table.old) }
+    ensures { IfOk result (λ next. (next.at ≤ length text.old) × (next.numbers ≤ length table.old)) }
 {
     let at = spot.at;
     let numbers = spot.numbers;
-    let took = take_word(index, text, at);
+    let took = take_word(rt, index, text, at)?;
     let units = took.units;
     if !took.fine {
-        return spot_of(0, 0);
+        return Ok(spot_of(0, 0));
     }
-    if entries {
-        return spot_of(
-            at + units,
-            put_entry(index, text, at, units, table, numbers),
-        );
-    }
-    spot_of(at + units, put_argument(index, at, units, table, numbers))
+    let end = if entries {
+        put_entry(rt, index, text, at, units, table, numbers)?
+    } else {
+        put_argument(rt, index, at, units, table, numbers)?
+    };
+    Ok(spot_of(at + units, end))
 }
 
 // The words from an index on, as entries or as arguments, their units in the text from a place on.
-pub fn gather(entries: bool, from: usize, start: usize, text: &mut [u16], table: &mut [u32]) -> Spot
+pub fn gather(
+    rt: &(impl Env + Print),
+    entries: bool,
+    from: usize,
+    start: usize,
+    text: &mut [u16],
+    table: &mut [u32],
+) -> Result<Spot>
     requires { start ≤ length text.old }
-    ensures { (result.at ≤ length text.old) × (result.numbers ≤ length table.old) }
+    ensures { IfOk result (λ spot. (spot.at ≤ length text.old) × (spot.numbers ≤ length table.old)) }
 {
     let mut spot = Spot {
         fine: true,
         at: start,
         numbers: 0,
     };
-    let count = os::arg_count();
+    let count = arg_count(rt);
     let mut index = from;
     while index < count {
-        spot = add_word(entries, index, spot, text, table);
+        spot = add_word(rt, entries, index, spot, text, table)?;
         if !spot.fine {
-            return spot;
+            return Ok(spot);
         }
         index += 1;
     }
-    spot
+    Ok(spot)
 }
 
 // The index of the program's word.
@@ -203,35 +232,38 @@ fn program_index(force: bool) -> usize
 }
 
 // The words of a call with a program or a script and its arguments.
-pub fn gather_call(text: &mut [u16], table: &mut [u32]) -> Call
-    ensures { (result.units ≤ length text.old) × (result.numbers ≤ length table.old) }
+pub fn gather_call(rt: &(impl Env + Print), text: &mut [u16], table: &mut [u32]) -> Result<Call>
+    ensures { IfOk result (λ call. (call.units ≤ length text.old) × (call.numbers ≤ length table.old)) }
 {
-    let force = is_forced();
+    let force = is_forced(rt);
     let first = program_index(force);
-    if os::arg_count() <= first {
-        say(b"error: name a program or a script, then its arguments\n");
-        return Call {
+    if arg_count(rt) <= first {
+        say(
+            rt,
+            b"error: name a program or a script, then its arguments\n",
+        )?;
+        return Ok(Call {
             fine: false,
             force,
             units: 0,
             numbers: 0,
-        };
+        });
     }
-    let took = take_word(first, text, 0);
+    let took = take_word(rt, first, text, 0)?;
     let units = took.units;
     if !took.fine {
-        return Call {
+        return Ok(Call {
             fine: false,
             force,
             units: 0,
             numbers: 0,
-        };
+        });
     }
-    let spot = gather(false, first + 1, units, text, table);
-    Call {
+    let spot = gather(rt, false, first + 1, units, text, table)?;
+    Ok(Call {
         fine: spot.fine,
         force,
         units,
         numbers: spot.numbers,
-    }
+    })
 }
