@@ -6,14 +6,16 @@ use console::room;
 use reading::{READ_LIMIT, argument, parse_lp_cmd_line};
 use rules::Parsed;
 use scans::has_quote;
+use std::io::Result;
 
 // Each argument on a line of its own.
-fn say_arguments(back: &[u16], spans: &[u32], count: usize) {
+fn say_arguments(rt: &impl Print, back: &[u16], spans: &[u32], count: usize) -> Result<()> {
     let mut i = 0;
     while i < count {
-        say_argument(i, argument(back, spans, i));
+        say_argument(rt, i, argument(back, spans, i))?;
         i += 1;
     }
+    Ok(())
 }
 
 // Whether an argument is the one given: argument 0 the program, each other the part of the text that its record names.
@@ -59,53 +61,64 @@ fn first_other(
 }
 
 // The arguments of a line, where an empty line is read as the name given.
-pub fn say_read(line: &[u16], name: &[u16]) {
+pub fn say_read(rt: &impl Print, line: &[u16], name: &[u16]) -> Result<()> {
     let mut back = room::back();
     let mut spans = room::spans();
     match parse_lp_cmd_line(line, name, &mut back, &mut spans) {
-        Parsed::Arguments { count, units: _ } => say_arguments(&back, &spans, count),
-        Parsed::Refused(refusal) => line_unread(refusal, READ_LIMIT),
+        Parsed::Arguments { count, units: _ } => say_arguments(rt, &back, &spans, count),
+        Parsed::Refused(refusal) => line_unread(rt, refusal, READ_LIMIT),
     }
 }
 
 // The arguments read, and whether they are those given.
 fn compare(
+    rt: &impl Print,
     count: usize,
     program: &[u16],
     table: &[u32],
     text: &[u16],
     back: &[u16],
     spans: &[u32],
-) {
-    say_arguments(back, spans, count);
+) -> Result<()> {
+    say_arguments(rt, back, spans, count)?;
     let other = first_other(count, program, table, text, back, spans);
-    say_verdict(other, count, table.len() / 3 + 1);
+    say_verdict(rt, other, count, table.len() / 3 + 1)?;
     if has_quote(program) {
-        say(b"a quote in the program is written as it is, and whoever reads the line drops it\n");
+        say(
+            rt,
+            b"a quote in the program is written as it is, and whoever reads the line drops it\n",
+        )?;
     }
+    Ok(())
 }
 
 // What is read from a line that was written, and whether it is what was given.
-pub fn read_back(line: &[u16], program: &[u16], table: &[u32], text: &[u16]) {
+pub fn read_back(
+    rt: &impl Print,
+    line: &[u16],
+    program: &[u16],
+    table: &[u32],
+    text: &[u16],
+) -> Result<()> {
     let mut back = room::back();
     let mut spans = room::spans();
     match parse_lp_cmd_line(line, program, &mut back, &mut spans) {
         Parsed::Arguments { count, units: _ } => compare(
-            count, program, table, text, &back, &spans,
+            rt, count, program, table, text, &back, &spans,
         ),
-        Parsed::Refused(refusal) => line_unread(refusal, READ_LIMIT),
+        Parsed::Refused(refusal) => line_unread(rt, refusal, READ_LIMIT),
     }
 }
 
 // Whether the arguments read are those given.
-fn say_verdict(other: usize, count: usize, given: usize) {
+fn say_verdict(rt: &impl Print, other: usize, count: usize, given: usize) -> Result<()> {
     if other < count {
-        say(b"argument ");
-        say_number(other);
-        say(b" is not the one given\n");
+        say(rt, b"argument ")?;
+        say_number(rt, other)?;
+        say(rt, b" is not the one given\n")
     } else if count == given {
-        say(b"each is the one given\n");
+        say(rt, b"each is the one given\n")
     } else {
-        say(b"there are not as many as were given\n");
+        say(rt, b"there are not as many as were given\n")
     }
 }
