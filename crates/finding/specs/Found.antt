@@ -6,9 +6,7 @@ use Rattle.rules.specs.Key.{Launch, key_of}
 use Rattle.rules.specs.Cache.{CacheEntry, Standing, there, nowhere, standing}
 use Rattle.rules.specs.Store.{code_of, flag_word, Represents}
 use Rattle.rules.specs.declared.Cached.{Cached}
-use Rattle.rules.specs.declared.Cached.TheVariants as Cached
 use Rattle.finding.specs.declared.Found.{Found}
-use Rattle.finding.specs.declared.Found.TheVariants as Found
 
 -- the entry whose words stand at a place of the index has that fingerprint, that flag, a program of that length, and units of its key that are those of
 -- the program and the arguments

@@ -26,7 +26,7 @@ returns c =
     let at-shared-slice-known2 = c.before.before.before.before.before.before in
     let at_entry_lem = at-shared-slice-known2.before.before in
     let s = at_entry_lem.args in
-    let lent = launch s.force-quotes s.program.now s.records.now s.text.now in
+    let lent = launch s.force_quotes s.program.now s.records.now s.text.now in
     looked_refused s.fingerprint lent _ (rw c.before.place.given.1 at c.before.before.before.first-fault.ensures)
 
 returns-2 : tie.Need-returns-2
@@ -35,7 +35,7 @@ returns-2 c =
     let at-first-fault = c.before.before.before.before.before in
     let at_entry_lem = at-first-fault.before.before.before.before.before in
     let s = at_entry_lem.args in
-    let lent = launch s.force-quotes s.program.now s.records.now s.text.now in
+    let lent = launch s.force_quotes s.program.now s.records.now s.text.now in
     rw c.looked.ensures (looked_found s.fingerprint lent _ (rw c.before.before.before.enum_told.given.1 at at-first-fault.first-fault.ensures) c.before.find.ensures)
 
 pub lookup_spec : {M : Type 1} → statement M

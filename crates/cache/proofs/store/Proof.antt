@@ -17,7 +17,7 @@ returns c =
     let at-shared-slice-known = c.before.before.before.before.before.before in
     let at_entry_lem = at-shared-slice-known.before.before in
     let s = at_entry_lem.args in
-    let lent = launch s.force-quotes s.program.now s.records.now s.text.now in
+    let lent = launch s.force_quotes s.program.now s.records.now s.text.now in
     stored_refused s.fingerprint lent _ (rw c.before.place.given.1 at c.before.before.before.first-fault.ensures)
 
 enum_told : tie.Need-enum-told
@@ -46,7 +46,7 @@ returns-2 c =
     let at-first-fault = at-enum-told.before.before in
     let at_entry_lem = at-first-fault.before.before.before.before.before in
     let s = at_entry_lem.args in
-    let lent = launch s.force-quotes s.program.now s.records.now s.text.now in
+    let lent = launch s.force_quotes s.program.now s.records.now s.text.now in
     stored_held s.fingerprint lent (rw at-enum-told.enum_told.given.1 at at-first-fault.first-fault.ensures) (rw c.before.found.given.1 at c.before.before.before.find.ensures)
 
 same-length-2 : tie.Need-same-length-2
@@ -60,7 +60,7 @@ returns-3 c =
     let at-first-fault = at-find.before.before.before.before.before.before in
     let at_entry_lem = at-first-fault.before.before.before.before.before in
     let s = at_entry_lem.args in
-    let lent = launch s.force-quotes s.program.now s.records.now s.text.now in
+    let lent = launch s.force_quotes s.program.now s.records.now s.text.now in
     stored_new s.fingerprint lent _ (rw at-enum-told2.enum-told2.given.1 at at-find.find.ensures) c.before.before.add.ensures
 
 pub store_spec : {M : Type 1} → statement M

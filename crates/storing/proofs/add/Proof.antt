@@ -12,7 +12,7 @@ use Rattle.storing.proofs.add.Tie as tie
 
 -- what is found before the builder is called
 begun : (c : tie.After-place-for) → let at-word-at-arg = c.before.before.before.before.before.before in let s = at-word-at-arg.before.before.before.before.before.before.args in
-    Begun s.places (launch s.force-quotes s.program.now s.records.now s.text.now) s.index.now s.units.now
+    Begun s.places (launch s.force_quotes s.program.now s.records.now s.text.now) s.index.now s.units.now
     (leb s.places c.before.before.before.before.before.word_at.result) c.before.before.smaller.result c.before.key-size.result c.place-for.result
 begun c =
     record {
