@@ -9,7 +9,6 @@ use lib.ListN.{length, get_or, take, drop, length-append, length-drop, take-appe
 use lib.Seq.{sets, length-sets}
 use borrow.Author.Tests.{ne_eqb, lt-ltb, le-ltb, leb-false}
 use Rattle.rules.specs.declared.Refusal.{Refusal}
-use Rattle.rules.specs.declared.Refusal.TheVariants as Refusal
 use Rattle.rules.specs.declared.Cached.TheVariants as Cached
 use Rattle.rules.specs.Choice.{pick}
 use Rattle.rules.specs.Outcome.{Outcome, done, refused, refuse, over}
