@@ -5,7 +5,6 @@ use mathlib.Core.Path.{◌≡◌, refl, sym, ◌∙◌}
 use mathlib.Core.List.{List, [], ◌∷◌}
 use lib.ListN.{length, set}
 use Rattle.rules.specs.declared.Cached.{Cached}
-use Rattle.rules.specs.declared.Cached.TheVariants as Cached
 use Rattle.rules.specs.declared.Refusal.TheVariants as Refusal
 use Rattle.rules.specs.Outcome.{Outcome, faultless, fault}
 use Rattle.rules.specs.Record.{argument_fault}
@@ -15,7 +14,6 @@ use Rattle.rules.specs.Store.{all_words, index_of, Represents, Empties, LooksUp,
 use Rattle.laws.specs.Prepared.{fault_first}
 use Rattle.laws.specs.Standing.{stands_built}
 use Rattle.finding.specs.declared.Found.{Found}
-use Rattle.finding.specs.declared.Found.TheVariants as Found
 use Rattle.finding.specs.Found.{hit_of, FindsLine}
 use Rattle.storing.specs.Added.{adding_new, Adds}
 
