@@ -6,6 +6,7 @@ ghost use Rattle.std.specs.Prelude.{◌≤◌, length};
 use octets::widen;
 use pages::{compare, put, put_units, verdict};
 use rules::{Built, Parsed};
+use std::io::Result;
 use units::refusals::{number_of, place_of};
 
 // The arguments that were read, each with a line feed behind it, on a page. The answer is how many bytes they have.
@@ -23,7 +24,7 @@ fn put_arguments(page: &mut [u8], text: &[u16], spans: &[u32], count: usize) -> 
 }
 
 // A line is read as these arguments, each with a line feed behind it.
-pub fn reads(line: &[u8], stated: &[u8]) {
+pub fn reads(rt: &impl Print, line: &[u8], stated: &[u8]) -> Result<()> {
     let mut units = [0u16; 64];
     let mut text = [0u16; 64];
     let mut spans = [0u32; 32];
@@ -33,9 +34,9 @@ pub fn reads(line: &[u8], stated: &[u8]) {
     match reading::parse_lp_cmd_line(&units[from..n], &[], &mut text, &mut spans) {
         Parsed::Arguments { count, units: _ } => {
             let to = put_arguments(&mut page, &text, &spans, count);
-            compare(b"read ", line, &page[from..to], stated);
+            compare(rt, b"read ", line, &page[from..to], stated)
         }
-        Parsed::Refused(_) => verdict(b"read ", line, false),
+        Parsed::Refused(_) => verdict(rt, b"read ", line, false),
     }
 }
 
@@ -56,26 +57,32 @@ fn is_refusal(built: Built, number: u32, place: usize) -> bool {
 }
 
 // The verdict where an output starts with these bytes.
-fn written(verb: &[u8], arg: &[u8], out: &[u16], units: usize, stated: &[u8]) {
+fn written(
+    rt: &impl Print,
+    verb: &[u8],
+    arg: &[u8],
+    out: &[u16],
+    units: usize,
+    stated: &[u8],
+) -> Result<()> {
     let mut page = [0u8; 128];
     let from = 0;
     if out.len() < units {
-        verdict(verb, arg, false);
-        return;
+        return verdict(rt, verb, arg, false);
     }
     let to = put_units(&mut page, 0, &out[from..units]);
-    compare(verb, arg, &page[from..to], stated);
+    compare(rt, verb, arg, &page[from..to], stated)
 }
 
 // Program `exe` and one regular argument are written as this line.
-pub fn writes(arg: &[u8], stated: &[u8]) {
+pub fn writes(rt: &impl Print, arg: &[u8], stated: &[u8]) -> Result<()> {
     let program = [101u16, 120, 101];
     let mut text = [0u16; 32];
     let mut out = [0u16; 96];
     let n = widen(arg, &mut text);
     let records = [0u32, 0, small(n)];
     let built = building::make_command_line(&program, &records, &text, false, &mut out);
-    written(b"write ", arg, &out, line_of(built), stated);
+    written(rt, b"write ", arg, &out, line_of(built), stated)
 }
 
 // A length as a record's number.
@@ -93,21 +100,22 @@ fn batch_line(arg: &[u8], out: &mut [u16]) -> Built {
 }
 
 // Script `a.bat` and one regular argument are written as this batch line.
-pub fn batches(arg: &[u8], stated: &[u8]) {
+pub fn batches(rt: &impl Print, arg: &[u8], stated: &[u8]) -> Result<()> {
     let mut out = [0u16; 96];
     let built = batch_line(arg, &mut out);
-    written(b"batch ", arg, &out, line_of(built), stated);
+    written(rt, b"batch ", arg, &out, line_of(built), stated)
 }
 
 // One regular argument of a batch line is refused by this number at this place.
-pub fn batch_refused(arg: &[u8], number: u32, place: usize) {
+pub fn batch_refused(rt: &impl Print, arg: &[u8], number: u32, place: usize) -> Result<()> {
     let mut out = [0u16; 96];
     let built = batch_line(arg, &mut out);
     verdict(
+        rt,
         b"batch ",
         b"NUL, CR is refused by 6, place 1",
         is_refusal(built, number, place),
-    );
+    )
 }
 
 // What was read has so many units, or is refused by this number; 0 where it is read.
@@ -122,34 +130,35 @@ fn is_read(parsed: Parsed, units: usize, number: u32) -> bool {
 }
 
 // A line of so many units is read, or refused by this number.
-pub fn limit(units: usize, number: u32, name: &[u8]) {
+pub fn limit(rt: &impl Print, units: usize, number: u32, name: &[u8]) -> Result<()> {
     let line = [97u16; 32768];
     let mut text = [0u16; 32768];
     let mut spans = [0u32; 4];
     let from = 0;
     if line.len() < units {
-        return;
+        return Ok(());
     }
     let parsed = reading::parse_lp_cmd_line(&line[from..units], &[], &mut text, &mut spans);
-    verdict(b"read ", name, is_read(parsed, units, number));
+    verdict(rt, b"read ", name, is_read(parsed, units, number))
 }
 
 // Four quotes, forced, take 10 units: a line of program `p` then has 14.
-pub fn bounds() {
+pub fn bounds(rt: &impl Print) -> Result<()> {
     let program = [112u16];
     let text = [34u16; 4];
     let records = [0u32, 0, 4];
     let mut out = [0u16; 32];
     let units = line_of(building::make_command_line(&program, &records, &text, true, &mut out));
     verdict(
+        rt,
         b"write ",
         b"four quotes, forced, take 10 units",
         units == 14,
-    );
+    )
 }
 
 // Nothing is written before a later argument is refused.
-pub fn unchanged() {
+pub fn unchanged(rt: &impl Print) -> Result<()> {
     let program = [112u16];
     let text = [97u16, 0];
     let records = [0u32, 0, 1, 0, 1, 1];
@@ -162,8 +171,9 @@ pub fn unchanged() {
         i += 1;
     }
     verdict(
+        rt,
         b"write ",
         b"a, NUL is refused by 5, place 2, and the output is as it was",
         kept & is_refusal(built, 5, 2),
-    );
+    )
 }
