@@ -5,33 +5,32 @@ mod writing;
 
 use console::reports::say;
 use console::{reports, room};
+use std::env::{Env, FillError};
+use std::io::Result;
 use terminal::words::{Command, command_of};
 
 // The command that the first word names; without a word, help.
-fn command() -> Command {
-    if os::arg_count() < 2 {
-        return Command::Help;
-    }
+fn command(rt: &impl Env) -> Command {
     let mut word = room::word();
-    let n = os::arg(1, &mut word);
-    if os::errno() != 0 {
-        return Command::Unknown;
+    match rt.arg(1, &mut word) {
+        Ok(n) => command_of(&word[..n]),
+        Err(FillError::NotPresent) => Command::Help,
+        Err(FillError::TooLong) => Command::Unknown,
     }
-    command_of(&word[..n])
 }
 
-fn main() {
-    match command() {
-        Command::Read => calls::read(),
-        Command::Write => writing::line(false),
-        Command::Batch => writing::line(true),
-        Command::Env => calls::env(),
-        Command::Status => calls::status(),
-        Command::Suffix => calls::suffix(),
-        Command::Help => reports::help(),
+fn main(rt: HostRuntime) -> Result<()> {
+    match command(&rt) {
+        Command::Read => calls::read(&rt),
+        Command::Write => writing::line(&rt, false),
+        Command::Batch => writing::line(&rt, true),
+        Command::Env => calls::env(&rt),
+        Command::Status => calls::status(&rt),
+        Command::Suffix => calls::suffix(&rt),
+        Command::Help => reports::help(&rt),
         Command::Unknown => {
-            say(b"error: the first word is no command\n\n");
-            reports::help();
+            say(&rt, b"error: the first word is no command\n\n")?;
+            reports::help(&rt)
         }
     }
 }
