@@ -1,37 +1,37 @@
 // Lines that the entries over a slice of records build, printed: an ordinary line, a batch line, and two refusals.
-use libc::STDOUT_FILENO;
 use octets::widen;
 use pages::{put_units, say};
 use rules::{Arg, Built, Refusal};
+use std::io::Result;
 use units::refusals::{number_of, place_of};
 
 // A line of so many units, as far as a page holds it.
-fn print_line(out: &[u16], units: usize) {
+fn print_line(rt: &impl Print, out: &[u16], units: usize) -> Result<()> {
     let mut page = [0u8; 128];
     let from = 0;
     if out.len() < units {
-        return;
+        return Ok(());
     }
     let to = put_units(&mut page, 0, &out[from..units]);
-    say(b"line ");
-    say(&page[from..to]);
-    say(b"\n");
+    say(rt, b"line ")?;
+    say(rt, &page[from..to])?;
+    say(rt, b"\n")
 }
 
 // A refusal's number and place.
-fn print_refusal(refusal: Refusal) {
-    say(b"refused ");
-    io::print_decimal(STDOUT_FILENO, number_of(refusal) as u64);
-    say(b" ");
-    io::print_decimal(STDOUT_FILENO, place_of(refusal) as u64);
-    say(b"\n");
+fn print_refusal(rt: &impl Print, refusal: Refusal) -> Result<()> {
+    say(rt, b"refused ")?;
+    rt.print(number_of(refusal))?;
+    say(rt, b" ")?;
+    rt.print(place_of(refusal))?;
+    say(rt, b"\n")
 }
 
 // An answer on a line of its own.
-fn print_answer(answer: Built, out: &[u16]) {
+fn print_answer(rt: &impl Print, answer: Built, out: &[u16]) -> Result<()> {
     match answer {
-        Built::Line { units } => print_line(out, units),
-        Built::Refused(refusal) => print_refusal(refusal),
+        Built::Line { units } => print_line(rt, out, units),
+        Built::Refused(refusal) => print_refusal(rt, refusal),
     }
 }
 
@@ -51,30 +51,30 @@ fn records(third: u32) -> [Arg; 4] {
 }
 
 // An ordinary line of program `p\go.exe` into what is lent.
-fn print_ordinary(third: u32, text: &[u16], out: &mut [u16]) {
+fn print_ordinary(rt: &impl Print, third: u32, text: &[u16], out: &mut [u16]) -> Result<()> {
     let mut program = [0u16; 8];
     widen(b"p\\go.exe", &mut program);
     let answer = slices::make_command_line_of_four(&program, records(third), text, false, out);
-    print_answer(answer, out);
+    print_answer(rt, answer, out)
 }
 
 // A batch line of script `go.bat` with forced quotes into what is lent.
-fn print_batch(text: &[u16], out: &mut [u16]) {
+fn print_batch(rt: &impl Print, text: &[u16], out: &mut [u16]) -> Result<()> {
     let mut script = [0u16; 6];
     widen(b"go.bat", &mut script);
     let answer = slices::make_bat_command_line_of_four(&script, records(0), text, true, out);
-    print_answer(answer, out);
+    print_answer(rt, answer, out)
 }
 
 // Two lines; a record of no kind; a line that has no room.
-pub fn print_lines() {
+pub fn print_lines(rt: &impl Print) -> Result<()> {
     let mut text = [0u16; 24];
     let mut out = [0u16; 128];
     let mut short = [0u16; 20];
-    say(b"Lines from a slice of records\n");
+    say(rt, b"Lines from a slice of records\n")?;
     widen(b"one twosay \"hi\"\\100%/raw", &mut text);
-    print_ordinary(0, &text, &mut out);
-    print_batch(&text, &mut out);
-    print_ordinary(2, &text, &mut out);
-    print_ordinary(0, &text, &mut short);
+    print_ordinary(rt, 0, &text, &mut out)?;
+    print_batch(rt, &text, &mut out)?;
+    print_ordinary(rt, 2, &text, &mut out)?;
+    print_ordinary(rt, 0, &text, &mut short)
 }
