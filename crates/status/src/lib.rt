@@ -58,12 +58,15 @@ fn answer(front: &[u16], digits: &[u16], out: &mut [u16]) -> Filled
     Filled::Units(units)
 }
 
+// The least status that is written in hexadecimal: the high bit is set from here on.
+const FIRST_HEXADECIMAL: u32 = 2147483648;
+
 // The text of a status (Rust: the `Display` of `ExitStatus`).
 pub fn status_text(status: u32, out: &mut [u16]) -> Filled
     ensures { Answered (status_outcome status (length out.old)) (filled_said result) out.old out.new }
 {
     let mut places = [0u16; 10];
-    if status < 2147483648 {
+    if status < FIRST_HEXADECIMAL {
         let at = lay_digits(10, status, &mut places);
         return answer(&DECIMAL_FRONT, &places[at..], out);
     }

@@ -3,10 +3,10 @@ use Rattle.status.proofs.Fitting.{decimal_text, hexadecimal_text, of_status}
 use Rattle.rules.specs.Unit.{units}
 use Rattle.status.proofs.status_text.Goals as goal
 
-pub returns-then-status-lt2147483648 : goal.returns-then-status-lt2147483648
+pub returns-then-status-lt-FIRST_HEXADECIMAL : goal.returns-then-status-lt-FIRST_HEXADECIMAL
 unfolding units
-returns-then-status-lt2147483648 c =
-    let tested = c.if-status-lt2147483648 in
+returns-then-status-lt-FIRST_HEXADECIMAL c =
+    let tested = c.if-status-lt-FIRST_HEXADECIMAL in
     let laid = c.lay_digits-at in
     of_status c.args.status
     (decimal_text c.args.status laid.result _ laid.new.places tested.true laid.ensures)
@@ -15,7 +15,7 @@ returns-then-status-lt2147483648 c =
 pub returns : goal.returns
 unfolding units
 returns c =
-    let tested = c.if-status-lt2147483648 in
+    let tested = c.if-status-lt-FIRST_HEXADECIMAL in
     let laid = c.lay_digits-at-2 in
     of_status c.args.status
     (hexadecimal_text c.args.status laid.result _ laid.new.places tested.false c.ranges.status.fits laid.ensures)
