@@ -63,7 +63,7 @@ KEEPS = ('cached',)
 def made(scratch, path, changes):
     """A copy of the crates' code with these changes."""
     crates = os.path.join(scratch, 'crates')
-    shutil.copytree(os.path.join(ROOT, 'crates'), crates, ignore=shutil.ignore_patterns('proofs', 'must-fail', 'out', 'data', 'stdin', 'stdout', 'args'))
+    shutil.copytree(os.path.join(ROOT, 'crates'), crates, ignore=shutil.ignore_patterns('must-fail', 'out', 'data', 'stdin', 'stdout', 'args'))
     shutil.copy(os.path.join(ROOT, 'crates.txt'), scratch)
     text = open(os.path.join(crates, path)).read()
     for old, new in changes:

@@ -60,17 +60,17 @@ enum {
     ASLAPUSH_BLOCK_UNITS = 65535                /* an environment block that is built, and what is lent to read one from */
 };
 
-/* What else is always enough: numbers of a span table for a line (theorem always-enough of docs/PROMISES.md) and for a block (table-always), and units of a
- * status text (status-bound). */
+/* What else is always enough: numbers of a span table for a line (theorem always_enough of docs/PROMISES.md) and for a block (table_always), and units of a
+ * status text (status_bound). */
 enum { ASLAPUSH_SPAN_NUMBERS = ASLAPUSH_READ_UNITS + 1, ASLAPUSH_ENTRY_NUMBERS = 87376, ASLAPUSH_STATUS_UNITS = 21 };
 
 /* Room that is enough for what is at hand, by theorems of docs/PROMISES.md.
- *     an ordinary line      program_len + 2, and for each argument of n units 2n + 3 (form-bound, and the space in front of it)
- *     a batch line          script_len + 31 (batch-line-length), and for each argument of n units 8n + 3 (batch-form-bound, and the space)
- *     reading n units       n units of text (text-bound) and n / 2 + 1 places, each of two numbers (count-bound); where the line is empty, n is the
+ *     an ordinary line      program_len + 2, and for each argument of n units 2n + 3 (form_bound, and the space in front of it)
+ *     a batch line          script_len + 31 (batch_line_length), and for each argument of n units 8n + 3 (batch_form_bound, and the space)
+ *     reading n units       n units of text (text_bound) and n / 2 + 1 places, each of two numbers (count_bound); where the line is empty, n is the
  *                           executable name's units. With n + 2 numbers nothing need be measured first, which is faster
  *     a block               exactly key_len + value_len + 2 for each entry, and 1; without entries 2
- *     reading a block       of n units: 4 * (n / 3) numbers, n / 3 rounded down (table-enough): an entry has at least three units with its NUL */
+ *     reading a block       of n units: 4 * (n / 3) numbers, n / 3 rounded down (table_enough): an entry has at least three units with its NUL */
 
 /* Reads a line by the C run-time rules. The line is the lent units up to the first NUL or the end; an empty line has one argument, the executable name as
  * it is. The texts lie one after another from the front of `text`; `spans` gets start and length of each, and an odd last number in it is no place.
@@ -109,7 +109,7 @@ uint32_t aslapush_make_envp(const uint32_t *records, size_t records_len, const u
  * an entry would start ends the block; no entries are two NULs. answer[1] is the number of entries, answer[2] the units used, with the final NUL: what is
  * lent behind them is ignored, but counts for refusal 2.
  * Refuses 2; 8 at the first bad entry, counted from 1, where a missing final NUL counts as the entry after the last; 3.
- * The first 4 * answer[1] numbers of `spans` are records for aslapush_make_envp with `block` as their text: it gives the units used again (lent-on).
+ * The first 4 * answer[1] numbers of `spans` are records for aslapush_make_envp with `block` as their text: it gives the units used again (lent_on).
  *     A=1 NUL =C:=x NUL NUL and 3 units more      gives 2 entries, 11 units used: spans 0 1 2 1  4 3 8 1
  *     A=1 NUL B NUL NUL                           gives refusal 8 at place 2 */
 uint32_t aslapush_read_envp(const uint16_t *block, size_t block_len, uint32_t *spans, size_t spans_len, uint64_t answer[4]);

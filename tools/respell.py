@@ -212,7 +212,8 @@ for part in turned.values():
     for k, v in part.items():
         if k != v:
             every[k].add(v)
-pages = {k: next(iter(v)) for k, v in every.items() if len(v) == 1}
+# `lent-entries` in a page is a question's verb, and no lemma.
+pages = {k: next(iter(v)) for k, v in every.items() if len(v) == 1 and k != 'lent-entries'}
 for folder, dirs, names in os.walk(os.path.join(ROOT, 'docs')):
     for f in names:
         path = os.path.join(folder, f)

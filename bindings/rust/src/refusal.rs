@@ -64,8 +64,8 @@ impl Refusal {
 
     /// The refusal of a number and a place that the library gave.
     ///
-    /// A number that is not here can only come from an archive that is not of this crate's version: the proved functions give no other (theorems read-only,
-    /// line-only, batch-only, block-only, entries-only, status-only, lookup-only and store-only of docs/PROMISES.md). That is a fault of the build and no
+    /// A number that is not here can only come from an archive that is not of this crate's version: the proved functions give no other (theorems read_only,
+    /// line_only, batch_only, block_only, entries_only, status_only, lookup_only and store_only of docs/PROMISES.md). That is a fault of the build and no
     /// property of the caller's input, so it is no variant, which every caller would have to handle and none could: it panics.
     pub(crate) fn of(number: u32, place: usize) -> Refusal {
         match number {

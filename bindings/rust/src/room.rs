@@ -3,12 +3,12 @@ use crate::{BATCH_UNITS, BLOCK_UNITS, LINE_UNITS, READ_UNITS};
 
 // A result past its limit is refused by 2, before the room is judged by 4. So room for the limit is always enough, and no list takes more.
 
-/// Units of room for an ordinary line: the program and its two quotes, and for an argument of n units its space and at most 2n + 2 (form-bound).
+/// Units of room for an ordinary line: the program and its two quotes, and for an argument of n units its space and at most 2n + 2 (form_bound).
 pub fn for_line(program: usize, units: usize, arguments: usize) -> usize {
     sum([(1, program), (1, 2), (2, units), (3, arguments)]).min(LINE_UNITS)
 }
 
-/// Units of room for a batch line: the script and 31 (batch-line-length), and for an argument of n units its space and at most 8n + 2 (batch-form-bound).
+/// Units of room for a batch line: the script and 31 (batch_line_length), and for an argument of n units its space and at most 8n + 2 (batch_form_bound).
 pub fn for_batch_line(script: usize, units: usize, arguments: usize) -> usize {
     sum([(1, script), (1, 31), (8, units), (3, arguments)]).min(BATCH_UNITS)
 }
@@ -23,14 +23,14 @@ fn sum<const N: usize>(terms: [(usize, usize); N]) -> usize {
     terms.iter().fold(0, |sum, (times, n)| sum.saturating_add(n.saturating_mul(*times)))
 }
 
-/// Units of text and numbers of a span table for reading a line: n units and n / 2 + 1 places (text-bound, count-bound). A place is two numbers; where n
+/// Units of text and numbers of a span table for reading a line: n units and n / 2 + 1 places (text_bound, count_bound). A place is two numbers; where n
 /// is odd one more is lent, because the reader measures first where it is lent fewer than n + 2.
 pub fn for_arguments(line: usize, exe_name: usize) -> (usize, usize) {
     let units = line.max(exe_name).min(READ_UNITS);
     (units, units + 2)
 }
 
-/// Numbers of a span table for reading a block of n units: four an entry, and there are at most (n - 1) / 3 (entries-bound). A slice past the limit is refused
+/// Numbers of a span table for reading a block of n units: four an entry, and there are at most (n - 1) / 3 (entries_bound). A slice past the limit is refused
 /// by 2, whatever the table has.
 pub fn for_entries(block: usize) -> usize {
     4 * (block.min(BLOCK_UNITS).saturating_sub(1) / 3)

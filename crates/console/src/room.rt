@@ -1,5 +1,5 @@
-// The arrays that the tool works on. Each has room for whatever a call can hold: 40,000 units are more than a line may have (`lineLimit` and `readLimit` in
-// `rules`), 70,000 more than a block may (`blockLimit`), and no word that Linux hands over has more than 131,072 bytes. Each array is made here alone, so that
+// The arrays that the tool works on. Each has room for whatever a call can hold: 40,000 units are more than a line may have (`line_limit` and `read_limit` in
+// `rules`), 70,000 more than a block may (`block_limit`), and no word that Linux hands over has more than 131,072 bytes. Each array is made here alone, so that
 // whoever lends it need not count it again.
 ghost use Rattle.std.specs.Prelude.{◌≡◌, length};
 

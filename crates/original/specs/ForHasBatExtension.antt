@@ -7,9 +7,14 @@ use Rattle.rules.specs.Suffix.{one_of, is_suffix, has_batch_suffix}
 use Rattle.laws.specs.Equal.{both_assoc}
 use Rattle.original.specs.HasBatExtension.{matches, has_bat_extension}
 
-common : (a b c d e f g : Bool) → either (both (both (both a b) c) d) (both (both (both a e) f) g) ≡ both a (either (both b (both c d)) (both e (both f g)))
-common true b c d e f g = rw (both_assoc b c d, both_assoc e f g)
-common false b c d e f g = refl
+common : (a b c : Bool) → either (both a b) (both a c) ≡ both a (either b c)
+common true b c = refl
+common false b c = refl
+
+-- two runs of four tests that begin alike
+common_first : (a b c d e f g : Bool) → either (both (both (both a b) c) d) (both (both (both a e) f) g) ≡ both a (either (both b (both c d)) (both e (both f g)))
+common_first true b c d e f g = rw (both_assoc b c d, both_assoc e f g) (common true (both b (both c d)) (both e (both f g)))
+common_first false b c d e f g = refl
 
 -- the patterns say of the last four units what the rule says
 matched : (xs : List ℕ) → matches (some xs) ≡ is_suffix xs
@@ -19,7 +24,7 @@ matched (a ∷ []) = refl
 matched (a ∷ b ∷ []) = refl
 matched (a ∷ b ∷ c ∷ []) = refl
 matched (a ∷ b ∷ c ∷ d ∷ []) =
-    common (eqb a 46) (one_of 98 66 b) (one_of 97 65 c) (one_of 116 84 d) (one_of 99 67 b) (one_of 109 77 c) (one_of 100 68 d)
+    common_first (eqb a 46) (one_of 98 66 b) (one_of 97 65 c) (one_of 116 84 d) (one_of 99 67 b) (one_of 109 77 c) (one_of 100 68 d)
 matched (a ∷ b ∷ c ∷ d ∷ e ∷ more) = refl
 
 -- of every path it says what the rule says

@@ -1,4 +1,4 @@
--- What stands for the Rust's library, under its names with `-` for `_`, which no name may hold here. Assumes nothing.
+-- What stands for the Rust's library, under its names (`is-empty`, beside the `is_empty` of `rules`). Assumes nothing.
 -- A vector is a list, and what is pushed comes to its end. A text (`OsStr`, `OsString`) is its units.
 -- Units are `u16` in the Rust; no definition and no theorem here needs that they are below 65,536.
 -- Borrowed from `rules`: `any` and `is_empty` (Choice), `units` and `within` (Unit), `Entry` (Record).

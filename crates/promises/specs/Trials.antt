@@ -21,7 +21,7 @@ use Rattle.promises.specs.BatchLine.{batch_numbered, batch_whole}
 use Rattle.promises.specs.Block.{block_numbered, block_whole}
 use Rattle.promises.specs.Reading.{read_numbered, read_whole}
 use Rattle.promises.specs.BlockReading.{entries_numbered, entries_whole}
-use Rattle.promises.specs.Worthless.{AdmitsNone, Trial, Tried, tried_admits_none}
+use Rattle.promises.specs.Worthless.{Trial, Tried}
 use Rattle.promises.specs.EntryPoints.{ToRead, ToList, ToBuild, ToFill, IsPart, reader, block_reader, Writer, writing, line_builder, batch_builder, block_builder}
 
 -- what is said with the number 0 is what the whole result says, where no refusal has that number
@@ -58,7 +58,7 @@ not_part (start, size, e) = go start (rw (← e) at (take-append-drop size (drop
     go (suc (suc (suc (suc zero)))) e = not_one e refl
     go (suc (suc (suc (suc (suc n))))) e = not_one (e ∙ drop-nil n) refl
 
-reader_tried : Tried reader
+pub reader_tried : Tried reader
 unfolding units reading arguments_read argument_part quoted unquoted equal
 reader_tried =
     record {
@@ -100,7 +100,7 @@ unfoldable one_listed : ToList
 unfolding units
 one_listed = record { lent = units "B=" ++ nul ∷ nul ∷ []; spans = replicate 8 0; in_units = refl; in_numbers = refl }
 
-block_reader_tried : Tried block_reader
+pub block_reader_tried : Tried block_reader
 unfolding units block_reading entries_read two_listed one_listed equal
 block_reader_tried =
     record {
@@ -176,6 +176,26 @@ unfolding units
 no_arguments =
     record { force = false; program = units "y"; records = []; text = []; out = replicate 37 nul; in_units = refl; in_numbers = refl }
 
+pub line_tried : Tried (writing line_builder)
+unfolding units command_line line two_arguments no_arguments equal
+line_tried =
+    tried line_builder built_one
+    (λ x. line_numbered x.force x.program x.records x.text (length x.out))
+    (λ x result e. (line_whole x.force x.program x.records x.text (length x.out) result e).1)
+    (trial line_builder two_arguments (Built.Line 8) (units "\"x\" a \"\"" ++ replicate 29 nul) refl refl refl)
+    (trial line_builder no_arguments (Built.Line 3) (units "\"y\"" ++ replicate 34 nul) refl refl refl)
+    refl refl refl refl
+
+pub batch_tried : Tried (writing batch_builder)
+unfolding units batch_command_line batch_line script_of two_arguments no_arguments equal
+batch_tried =
+    tried batch_builder built_one
+    (λ x. batch_numbered x.force x.program x.records x.text (length x.out))
+    (λ x result e. (batch_whole x.force x.program x.records x.text (length x.out) result e).1)
+    (trial batch_builder two_arguments (Built.Line 37) (units "cmd.exe /e:ON /v:OFF /d /c \"\"x\" a \"\"\"") refl refl refl)
+    (trial batch_builder no_arguments (Built.Line 32) (units "cmd.exe /e:ON /v:OFF /d /c \"\"y\"\"" ++ replicate 5 nul) refl refl refl)
+    refl refl refl refl
+
 -- keys `A` and `B`, both values empty
 unfoldable two_entries : ToFill
 unfolding units
@@ -187,48 +207,12 @@ unfoldable one_entry_lem : ToFill
 unfolding units
 one_entry_lem = record { records = 1 ∷ 1 ∷ 0 ∷ 0 ∷ []; text = units "AB"; out = replicate 7 nul; in_units = refl; in_numbers = refl }
 
--- ---- no worthless program
-
--- the contract of parse_lp_cmd_line admits none
-pub reader_admits_none : AdmitsNone reader
-reader_admits_none = tried_admits_none reader_tried
-
--- the contract of read_envp admits none
-pub block_reader_admits_none : AdmitsNone block_reader
-block_reader_admits_none = tried_admits_none block_reader_tried
-
--- the contract of make_command_line admits none
-pub line_admits_none : AdmitsNone (writing line_builder)
-unfolding units command_line line two_arguments no_arguments equal
-line_admits_none =
-    tried_admits_none
-    (tried line_builder built_one
-    (λ x. line_numbered x.force x.program x.records x.text (length x.out))
-    (λ x result e. (line_whole x.force x.program x.records x.text (length x.out) result e).1)
-    (trial line_builder two_arguments (Built.Line 8) (units "\"x\" a \"\"" ++ replicate 29 nul) refl refl refl)
-    (trial line_builder no_arguments (Built.Line 3) (units "\"y\"" ++ replicate 34 nul) refl refl refl)
-    refl refl refl refl)
-
--- the contract of make_bat_command_line admits none
-pub batch_admits_none : AdmitsNone (writing batch_builder)
-unfolding units batch_command_line batch_line script_of two_arguments no_arguments equal
-batch_admits_none =
-    tried_admits_none
-    (tried batch_builder built_one
-    (λ x. batch_numbered x.force x.program x.records x.text (length x.out))
-    (λ x result e. (batch_whole x.force x.program x.records x.text (length x.out) result e).1)
-    (trial batch_builder two_arguments (Built.Line 37) (units "cmd.exe /e:ON /v:OFF /d /c \"\"x\" a \"\"\"") refl refl refl)
-    (trial batch_builder no_arguments (Built.Line 32) (units "cmd.exe /e:ON /v:OFF /d /c \"\"y\"\"" ++ replicate 5 nul) refl refl refl)
-    refl refl refl refl)
-
--- the contract of make_envp admits none
-pub block_admits_none : AdmitsNone (writing block_builder)
+pub block_tried : Tried (writing block_builder)
 unfolding units environment_block block entry_units two_entries one_entry_lem equal
-block_admits_none =
-    tried_admits_none
-    (tried block_builder filled_one
+block_tried =
+    tried block_builder filled_one
     (λ x. block_numbered x.records x.text (length x.out))
     (λ x result e. (block_whole x.records x.text (length x.out) result e).1)
     (trial block_builder two_entries (Filled.Units 7) (units "A=" ++ nul ∷ units "B=" ++ nul ∷ nul ∷ []) refl refl refl)
     (trial block_builder one_entry_lem (Filled.Units 4) (units "B=" ++ replicate 5 nul) refl refl refl)
-    refl refl refl refl)
+    refl refl refl refl

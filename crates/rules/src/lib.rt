@@ -9,7 +9,7 @@ pub struct Arg {
     pub len: u32,
 }
 
-// A refusal, by name. Its number is given by `refusalSaid` (specs/Answer.antt). The field is the place: the index of
+// A refusal, by name. Its number is given by `refusal_said` (specs/Answer.antt). The field is the place: the index of
 // the record or entry at fault plus 1, or 0 where none is.
 #[derive(Clone, Copy)]
 pub enum Refusal {
