@@ -1,7 +1,7 @@
 // A program's dialogue by lines: the lines of standard input one after another, and an answer to each on standard output.
 #![tactic(auto)]
 
-ghost use Rattle.std.specs.Prelude.{◌≤◌, ◌<◌, IfOk, length};
+ghost use Rattle.std.specs.Prelude.{◌≡◌, ◌≤◌, ◌<◌, IfOk, OnErr, length};
 ghost use Rattle.dialogue.specs.Turn.{Fits, Gathered};
 
 use replies::answers::{Answer, put_answer};
@@ -78,7 +78,8 @@ pub fn next_line<R: Read>(
     piece: &[u8],
 ) -> io::Result<Turn>
     requires { Fits t (length chunk.old) (length line.old) (length piece.now) }
-    ensures { IfOk result (λ r. Fits r (length chunk.old) (length line.old) (length piece.now)) }
+    ensures ok { IfOk result (λ r. Fits r (length chunk.old) (length line.old) (length piece.now)) }
+    ensures err { OnErr result ((length chunk.new ≡ length chunk.old) × (length line.new ≡ length line.old)) }
 {
     let mut r = t;
     r.size = 0;
@@ -116,7 +117,8 @@ pub fn show(
     piece: &mut [u8],
 ) -> io::Result<Turn>
     requires { t.at < length piece.old }
-    ensures { IfOk result (λ r. (r.at < length piece.old) × (r.end ≤ t.end) × (r.size ≤ t.size)) }
+    ensures ok { IfOk result (λ r. (r.at < length piece.old) × (r.end ≤ t.end) × (r.size ≤ t.size)) }
+    ensures err { OnErr result (length piece.new ≡ length piece.old) }
 {
     let mut r = t;
     let mut skip = 0;

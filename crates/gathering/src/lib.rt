@@ -1,7 +1,7 @@
 // The words of the call, taken from UTF-8 into one text, with a record for each.
 #![tactic(auto)]
 
-ghost use Rattle.std.specs.Prelude.{◌≡◌, ◌+◌, ◌<◌, ◌≤◌, ◌^◌, true, length, IfOk};
+ghost use Rattle.std.specs.Prelude.{◌≡◌, ◌+◌, ◌<◌, ◌≤◌, ◌^◌, true, length, IfOk, OnErr};
 
 use console::reports::{no_entry, no_room, no_utf8, say, say_error};
 use console::room;
@@ -64,7 +64,8 @@ fn take_bytes(
     at: usize,
 ) -> Result<Took>
     requires { at ≤ length text.old }
-    ensures { IfOk result (λ took. at + took.units ≤ length text.old) }
+    ensures ok { IfOk result (λ took. at + took.units ≤ length text.old) }
+    ensures err { OnErr result (length text.new ≡ length text.old) }
 {
     let taken = decode(word, &mut text[at..]);
     let units = taken.units;
@@ -83,7 +84,8 @@ fn take_bytes(
 // A word of the call into the text, from a place on. It is read to an array of its own, which has room for the longest word that Linux hands over.
 pub fn take_word(rt: &(impl Env + Print), index: usize, text: &mut [u16], at: usize) -> Result<Took>
     requires { at ≤ length text.old }
-    ensures { IfOk result (λ took. at + took.units ≤ length text.old) }
+    ensures ok { IfOk result (λ took. at + took.units ≤ length text.old) }
+    ensures err { OnErr result (length text.new ≡ length text.old) }
 {
     let mut word = room::word();
     match rt.arg(index, &mut word) {
@@ -116,7 +118,8 @@ fn put_argument(
     numbers: usize,
 ) -> Result<usize>
     requires { numbers ≤ length table.old }
-    ensures { IfOk result (λ end. end ≤ length table.old) }
+    ensures ok { IfOk result (λ end. end ≤ length table.old) }
+    ensures err { OnErr result (length table.new ≡ length table.old) }
 {
     put_number(table, numbers, 0);
     if !put_span(table, numbers + 1, at, units) {
@@ -149,7 +152,8 @@ fn put_entry(
     numbers: usize,
 ) -> Result<usize>
     requires { (at + units ≤ length text.now) × (numbers ≤ length table.old) }
-    ensures { IfOk result (λ end. end ≤ length table.old) }
+    ensures ok { IfOk result (λ end. end ≤ length table.old) }
+    ensures err { OnErr result (length table.new ≡ length table.old) }
 {
     let end = at + units;
     let word = &text[at..end];
@@ -175,7 +179,8 @@ fn add_word(
     table: &mut [u32],
 ) -> Result<Spot>
     requires { (spot.at ≤ length text.old) × (spot.numbers ≤ length table.old) }
-    ensures { IfOk result (λ next. (next.at ≤ length text.old) × (next.numbers ≤ length table.old)) }
+    ensures ok { IfOk result (λ next. (next.at ≤ length text.old) × (next.numbers ≤ length table.old)) }
+    ensures err { OnErr result ((length text.new ≡ length text.old) × (length table.new ≡ length table.old)) }
 {
     let at = spot.at;
     let numbers = spot.numbers;
@@ -202,7 +207,8 @@ pub fn gather(
     table: &mut [u32],
 ) -> Result<Spot>
     requires { start ≤ length text.old }
-    ensures { IfOk result (λ spot. (spot.at ≤ length text.old) × (spot.numbers ≤ length table.old)) }
+    ensures ok { IfOk result (λ spot. (spot.at ≤ length text.old) × (spot.numbers ≤ length table.old)) }
+    ensures err { OnErr result ((length text.new ≡ length text.old) × (length table.new ≡ length table.old)) }
 {
     let mut spot = Spot {
         fine: true,
@@ -233,7 +239,8 @@ fn program_index(force: bool) -> usize
 
 // The words of a call with a program or a script and its arguments.
 pub fn gather_call(rt: &(impl Env + Print), text: &mut [u16], table: &mut [u32]) -> Result<Call>
-    ensures { IfOk result (λ call. (call.units ≤ length text.old) × (call.numbers ≤ length table.old)) }
+    ensures ok { IfOk result (λ call. (call.units ≤ length text.old) × (call.numbers ≤ length table.old)) }
+    ensures err { OnErr result ((length text.new ≡ length text.old) × (length table.new ≡ length table.old)) }
 {
     let force = is_forced(rt);
     let first = program_index(force);
