@@ -7,6 +7,7 @@ Each variant is made in a scratch copy, compiled with no proof (`rt try`) and gi
 as recorded, or the code as it stands does not.
 """
 import os
+import resource
 import shutil
 import subprocess
 import sys
@@ -73,6 +74,11 @@ def made(scratch, path, changes):
     open(os.path.join(crates, path), 'w').write(text)
 
 
+def larger_stack():
+    """What is compiled without optimisation holds each of its arrays twice."""
+    resource.setrlimit(resource.RLIMIT_STACK, (64 << 20, resource.getrlimit(resource.RLIMIT_STACK)[1]))
+
+
 def lines_of(name, file):
     return open(os.path.join(ROOT, 'crates', name, file)).read().split('\n')[:-1]
 
@@ -98,7 +104,8 @@ def caught(name, path, changes):
         cut = list(parts(name))
         for i, (put, _) in enumerate(cut):
             open(os.path.join(cases, f'part{i:03}'), 'w').write('\n'.join(put) + '\n')
-        ran = subprocess.run(['rt', 'try', '--cases', cases], cwd=os.path.join(scratch, 'crates', name), capture_output=True, text=True)
+        ran = subprocess.run(['rt', 'try', '--cases', cases], cwd=os.path.join(scratch, 'crates', name), capture_output=True, text=True,
+                             preexec_fn=larger_stack)
     found = []
     for i, (put, recorded) in enumerate(cut):
         _, head, rest = ran.stdout.partition(f'== part{i:03}\n')
