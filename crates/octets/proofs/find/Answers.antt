@@ -1,10 +1,6 @@
 -- `octets::find` meets its contract. Assumes nothing.
-use lib.Dec.{eqb}
-use lib.ListN.{length}
-use Prim.Native.Nat.{◌-◌}
 use borrow.Author.Tests.{eq-eqb, ne_eqb}
-use Rattle.rules.specs.Choice.{flip}
-use Rattle.laws.specs.Scan.{Passed, all_passed, none_passed, one_more, stopped}
+use Rattle.laws.specs.Scan.{all_passed, none_passed, one_more, stopped}
 use Rattle.octets.proofs.find.Goals as goal
 
 pub loop-i-init : goal.loop-i-init

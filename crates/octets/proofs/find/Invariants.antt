@@ -2,9 +2,8 @@
 use lib.Dec.{eqb}
 use lib.ListN.{length}
 use Prim.Native.Nat.{◌-◌}
-use borrow.Author.Tests.{eq-eqb, ne_eqb}
 use Rattle.rules.specs.Choice.{flip}
-use Rattle.laws.specs.Scan.{Passed, all_passed, none_passed, one_more, stopped}
+use Rattle.laws.specs.Scan.{Passed}
 use Rattle.octets.proofs.find.Given as goal
 
 abbrev pub invariant-loop-i : goal.invariant-loop-i

@@ -1,11 +1,10 @@
 -- `octets::put_run` meets its contract. Assumes nothing.
-use Prim.Native.Nat.{◌+◌, ◌-◌, ◌≤◌}
+use Prim.Native.Nat.{◌+◌}
 use native.Mathlib.Nat.{add-zero}
 use native.Mathlib.Omega.{arith}
 use mathlib.Core.Path.{◌∙◌, ◌≡◌, refl, sym}
 use mathlib.Core.List.{[]}
-use lib.ListN.{drop, drop_of_length-le, length}
-use lib.Seq.{sets}
+use lib.ListN.{drop, drop_of_length-le}
 use Rattle.laws.specs.Store.{copy_turn}
 use borrow.Author.Rules.{rules}
 use Rattle.octets.proofs.put_run.Goals as goal

@@ -1,12 +1,8 @@
 -- The invariant and the measure of `octets::put_run`. Assumes nothing.
 use Prim.Native.Nat.{◌+◌, ◌-◌, ◌≤◌}
-use native.Mathlib.Nat.{add-zero}
-use native.Mathlib.Omega.{arith}
-use mathlib.Core.Path.{◌∙◌, ◌≡◌, refl, sym}
-use mathlib.Core.List.{[]}
-use lib.ListN.{drop, drop_of_length-le, length}
+use mathlib.Core.Path.{◌≡◌}
+use lib.ListN.{drop, length}
 use lib.Seq.{sets}
-use Rattle.laws.specs.Store.{copy_turn}
 use Rattle.octets.proofs.put_run.Given as goal
 
 abbrev pub invariant-loop-i : goal.invariant-loop-i

@@ -1,8 +1,7 @@
 -- The invariant and the measure of `octets::same`. Assumes nothing.
 use Prim.Native.Nat.{◌-◌}
 use lib.ListN.{length}
-use mathlib.Core.Path.{sym}
-use Rattle.laws.specs.Equal.{Comparing, all_same, none_compared, one_differs, one_same, unequal}
+use Rattle.laws.specs.Equal.{Comparing}
 use Rattle.octets.proofs.same.Given as goal
 
 abbrev pub invariant-loop-i : goal.invariant-loop-i

@@ -1,9 +1,7 @@
 -- `octets::widen` meets its contract. Assumes nothing.
-use Prim.Native.Nat.{◌-◌, ◌≤◌}
 use native.Mathlib.Omega.{arith}
-use mathlib.Core.Path.{◌∙◌, ◌≡◌, refl, sym}
-use lib.ListN.{drop, drop_of_length-le, length, length-set}
-use lib.Seq.{sets}
+use mathlib.Core.Path.{◌∙◌, refl, sym}
+use lib.ListN.{drop, drop_of_length-le, length-set}
 use Rattle.laws.specs.Store.{copy_turn, sets_out}
 use borrow.Author.Rules.{rules}
 use Rattle.octets.proofs.widen.Goals as goal

@@ -1,10 +1,8 @@
 -- The invariant and the measure of `octets::widen`. Assumes nothing.
 use Prim.Native.Nat.{◌-◌, ◌≤◌}
-use native.Mathlib.Omega.{arith}
-use mathlib.Core.Path.{◌∙◌, ◌≡◌, refl, sym}
-use lib.ListN.{drop, drop_of_length-le, length, length-set}
+use mathlib.Core.Path.{◌≡◌}
+use lib.ListN.{drop, length}
 use lib.Seq.{sets}
-use Rattle.laws.specs.Store.{copy_turn, sets_out}
 use Rattle.octets.proofs.widen.Given as goal
 
 abbrev pub invariant-loop-i : goal.invariant-loop-i

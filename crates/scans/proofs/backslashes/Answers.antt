@@ -1,9 +1,6 @@
 -- `scans::backslashes` meets its contract. Assumes nothing.
 use borrow.Author.Tests.{eq-eqb, ne_eqb}
-use Prim.Native.Nat.{◌-◌}
-use lib.ListN.{length}
-use Rattle.rules.specs.Unit.{is_backslash}
-use Rattle.laws.specs.Scan.{Passed, none_passed, one_more, stopped, all_passed}
+use Rattle.laws.specs.Scan.{none_passed, one_more, stopped, all_passed}
 use Rattle.scans.proofs.backslashes.Goals as goal
 
 pub loop-i-init : goal.loop-i-init

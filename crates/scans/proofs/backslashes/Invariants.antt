@@ -1,9 +1,8 @@
 -- The invariant and the measure of `scans::backslashes`. Assumes nothing.
-use borrow.Author.Tests.{eq-eqb, ne_eqb}
 use Prim.Native.Nat.{◌-◌}
 use lib.ListN.{length}
 use Rattle.rules.specs.Unit.{is_backslash}
-use Rattle.laws.specs.Scan.{Passed, none_passed, one_more, stopped, all_passed}
+use Rattle.laws.specs.Scan.{Passed}
 use Rattle.scans.proofs.backslashes.Given as goal
 
 abbrev pub invariant-loop-i : goal.invariant-loop-i

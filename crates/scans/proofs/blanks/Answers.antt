@@ -1,9 +1,7 @@
 -- `scans::blanks` meets its contract. Assumes nothing.
 use mathlib.Core.Path.{sym, ◌∙◌}
-use Prim.Native.Nat.{◌-◌}
-use lib.ListN.{length}
 use Rattle.rules.specs.Unit.{is_blank}
-use Rattle.laws.specs.Scan.{Passed, none_passed, one_more, stopped, all_passed}
+use Rattle.laws.specs.Scan.{none_passed, one_more, stopped, all_passed}
 use Rattle.scans.proofs.blanks.Goals as goal
 
 pub loop-i-init : goal.loop-i-init

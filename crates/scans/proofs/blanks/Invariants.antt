@@ -1,9 +1,8 @@
 -- The invariant and the measure of `scans::blanks`. Assumes nothing.
-use mathlib.Core.Path.{sym, ◌∙◌}
 use Prim.Native.Nat.{◌-◌}
 use lib.ListN.{length}
 use Rattle.rules.specs.Unit.{is_blank}
-use Rattle.laws.specs.Scan.{Passed, none_passed, one_more, stopped, all_passed}
+use Rattle.laws.specs.Scan.{Passed}
 use Rattle.scans.proofs.blanks.Given as goal
 
 abbrev pub invariant-loop-i : goal.invariant-loop-i

@@ -1,8 +1,7 @@
 -- `scans::few_have_either` meets its contract. Assumes nothing.
-use Prim.Native.Nat.{◌-◌}
 use mathlib.Core.Path.{◌∙◌, refl, sym}
-use lib.ListN.{get_or, length}
-use Rattle.laws.specs.Any.{Open, any_one, or_either, none_open, part_none, part_one}
+use lib.ListN.{get_or}
+use Rattle.laws.specs.Any.{any_one, or_either, none_open, part_none, part_one}
 use Rattle.laws.specs.Scan.{is_either, is_unit}
 use Rattle.scans.proofs.few_have_either.Goals as goal
 

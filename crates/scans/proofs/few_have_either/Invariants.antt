@@ -1,9 +1,8 @@
 -- The invariant and the measure of `scans::few_have_either`. Assumes nothing.
 use Prim.Native.Nat.{◌-◌}
-use mathlib.Core.Path.{◌∙◌, refl, sym}
-use lib.ListN.{get_or, length}
-use Rattle.laws.specs.Any.{Open, any_one, or_either, none_open, part_none, part_one}
-use Rattle.laws.specs.Scan.{is_either, is_unit}
+use lib.ListN.{length}
+use Rattle.laws.specs.Any.{Open}
+use Rattle.laws.specs.Scan.{is_either}
 use Rattle.scans.proofs.few_have_either.Given as goal
 
 abbrev pub invariant-loop-i : goal.invariant-loop-i

@@ -1,11 +1,9 @@
 -- `scans::find_by_eights` meets its contract. Assumes nothing.
-use Prim.Native.Nat.{◌-◌, ◌≤◌}
 use native.Mathlib.Omega.{arith}
 use mathlib.Core.Path.{◌∙◌, ◌≡◌, sym}
-use lib.ListN.{length}
-use Rattle.rules.specs.Choice.{any, flip}
+use Rattle.rules.specs.Choice.{any}
 use Rattle.laws.specs.Any.{any_either}
-use Rattle.laws.specs.Scan.{Passed, front_passed, is_either, is_one_of, many_more, passed_in, rest_passed, rest_within}
+use Rattle.laws.specs.Scan.{front_passed, is_either, is_one_of, many_more, passed_in, rest_passed, rest_within}
 use mathlib.Core.Bool.{false}
 use Rattle.rules.specs.Record.{part}
 use borrow.Author.Rules.{rules}

@@ -1,11 +1,8 @@
 -- `scans::find_nul` meets its contract. Assumes nothing.
-use Prim.Native.Nat.{◌-◌, ◌≤◌}
 use native.Mathlib.Omega.{arith}
 use mathlib.Core.Path.{◌∙◌, sym}
-use lib.ListN.{length}
-use Rattle.rules.specs.Choice.{flip}
 use Rattle.rules.specs.Unit.{is_nul}
-use Rattle.laws.specs.Scan.{Passed, before_one, many_more, none_passed, rest_passed, rest_within}
+use Rattle.laws.specs.Scan.{before_one, many_more, none_passed, rest_passed, rest_within}
 use borrow.Author.Rules.{rules}
 use Rattle.scans.proofs.find_nul.Goals as goal
 

@@ -1,11 +1,9 @@
 -- The invariant and the measure of `scans::find_nul`. Assumes nothing.
 use Prim.Native.Nat.{◌-◌, ◌≤◌}
-use native.Mathlib.Omega.{arith}
-use mathlib.Core.Path.{◌∙◌, sym}
 use lib.ListN.{length}
 use Rattle.rules.specs.Choice.{flip}
 use Rattle.rules.specs.Unit.{is_nul}
-use Rattle.laws.specs.Scan.{Passed, before_one, many_more, none_passed, rest_passed, rest_within}
+use Rattle.laws.specs.Scan.{Passed}
 use Rattle.scans.proofs.find_nul.Given as goal
 
 abbrev pub invariant-loop-i : goal.invariant-loop-i

@@ -1,9 +1,6 @@
 -- `scans::find_slowly` meets its contract. Assumes nothing.
-use Prim.Native.Nat.{◌-◌}
 use mathlib.Core.Path.{◌∙◌, sym}
-use lib.ListN.{length}
-use Rattle.rules.specs.Choice.{flip}
-use Rattle.laws.specs.Scan.{Passed, all_passed, is_one_of, none_passed, one_more, stopped}
+use Rattle.laws.specs.Scan.{all_passed, none_passed, one_more, stopped}
 use Rattle.scans.proofs.find_slowly.Goals as goal
 
 pub loop-i-init : goal.loop-i-init

@@ -1,9 +1,8 @@
 -- The invariant and the measure of `scans::find_slowly`. Assumes nothing.
 use Prim.Native.Nat.{◌-◌}
-use mathlib.Core.Path.{◌∙◌, sym}
 use lib.ListN.{length}
 use Rattle.rules.specs.Choice.{flip}
-use Rattle.laws.specs.Scan.{Passed, all_passed, is_one_of, none_passed, one_more, stopped}
+use Rattle.laws.specs.Scan.{Passed, is_one_of}
 use Rattle.scans.proofs.find_slowly.Given as goal
 
 abbrev pub invariant-loop-i : goal.invariant-loop-i

@@ -1,7 +1,7 @@
 -- `scans::many_have_either` meets its contract. Assumes nothing.
 use Prim.Native.Nat.{◌+◌, ◌-◌}
 use mathlib.Core.Path.{◌∙◌, ◌≡◌, refl, sym}
-use Rattle.laws.specs.Any.{Open, back, last_part, part_none, part_one}
+use Rattle.laws.specs.Any.{back, last_part, part_none, part_one}
 use Rattle.laws.specs.Scan.{is_either}
 use lib.ListN.{length}
 use borrow.Author.Rules.{rules}

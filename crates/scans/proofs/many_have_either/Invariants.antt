@@ -1,9 +1,7 @@
 -- The invariant and the measure of `scans::many_have_either`. Assumes nothing.
-use Prim.Native.Nat.{◌+◌, ◌-◌}
-use mathlib.Core.Path.{◌∙◌, ◌≡◌, refl, sym}
-use Rattle.laws.specs.Any.{Open, back, last_part, part_none, part_one}
+use Prim.Native.Nat.{◌-◌}
+use Rattle.laws.specs.Any.{Open}
 use Rattle.laws.specs.Scan.{is_either}
-use lib.ListN.{length}
 use Rattle.scans.proofs.many_have_either.Given as goal
 
 abbrev pub invariant-loop-i : goal.invariant-loop-i

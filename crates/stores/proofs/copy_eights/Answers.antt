@@ -1,8 +1,7 @@
 -- `stores::copy_eights` meets its contract. Assumes nothing.
 use Prim.Native.Nat.{◌-◌}
-use mathlib.Core.Path.{◌∙◌, ◌≡◌, refl}
-use lib.ListN.{length, take}
-use lib.Seq.{sets}
+use mathlib.Core.Path.{◌∙◌, refl}
+use lib.ListN.{length}
 use Rattle.laws.specs.Any.{last_part}
 use Rattle.laws.specs.Store.{last_over, part_more}
 use borrow.Author.Rules.{rules}

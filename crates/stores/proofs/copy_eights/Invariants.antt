@@ -1,10 +1,8 @@
 -- The invariant and the measure of `stores::copy_eights`. Assumes nothing.
 use Prim.Native.Nat.{◌-◌}
-use mathlib.Core.Path.{◌∙◌, ◌≡◌, refl}
+use mathlib.Core.Path.{◌≡◌}
 use lib.ListN.{length, take}
 use lib.Seq.{sets}
-use Rattle.laws.specs.Any.{last_part}
-use Rattle.laws.specs.Store.{last_over, part_more}
 use Rattle.stores.proofs.copy_eights.Given as goal
 
 abbrev pub invariant-loop-i : goal.invariant-loop-i

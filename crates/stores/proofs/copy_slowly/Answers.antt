@@ -1,8 +1,7 @@
 -- `stores::copy_slowly` meets its contract. Assumes nothing.
-use Prim.Native.Nat.{◌-◌}
 use native.Mathlib.Nat.{add-zero}
 use mathlib.Core.Path.{refl}
-use Rattle.stores.proofs.Clip.{Storing, stored_one, all_stored}
+use Rattle.stores.proofs.Clip.{stored_one, all_stored}
 use borrow.Author.Rules.{rules}
 use Rattle.stores.proofs.copy_slowly.Goals as goal
 

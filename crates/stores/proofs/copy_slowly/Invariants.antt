@@ -1,8 +1,6 @@
 -- The invariant and the measure of `stores::copy_slowly`. Assumes nothing.
 use Prim.Native.Nat.{◌-◌}
-use native.Mathlib.Nat.{add-zero}
-use mathlib.Core.Path.{refl}
-use Rattle.stores.proofs.Clip.{Storing, stored_one, all_stored}
+use Rattle.stores.proofs.Clip.{Storing}
 use Rattle.stores.proofs.copy_slowly.Given as goal
 
 abbrev pub invariant-loop-i : goal.invariant-loop-i

@@ -1,9 +1,8 @@
 -- `stores::repeat` meets its contract. Assumes nothing.
-use Prim.Native.Nat.{◌-◌}
 use native.Mathlib.Nat.{add-zero}
 use mathlib.Core.Path.{refl}
-use lib.ListN.{replicate, length-replicate, get_or-replicate}
-use Rattle.stores.proofs.Clip.{Storing, stored_one, all_stored}
+use lib.ListN.{length-replicate, get_or-replicate}
+use Rattle.stores.proofs.Clip.{stored_one, all_stored}
 use borrow.Author.Rules.{rules}
 use Rattle.stores.proofs.repeat.Goals as goal
 

@@ -1,9 +1,7 @@
 -- The invariant and the measure of `stores::repeat`. Assumes nothing.
 use Prim.Native.Nat.{◌-◌}
-use native.Mathlib.Nat.{add-zero}
-use mathlib.Core.Path.{refl}
-use lib.ListN.{replicate, length-replicate, get_or-replicate}
-use Rattle.stores.proofs.Clip.{Storing, stored_one, all_stored}
+use lib.ListN.{replicate}
+use Rattle.stores.proofs.Clip.{Storing}
 use Rattle.stores.proofs.repeat.Given as goal
 
 abbrev pub invariant-loop-i : goal.invariant-loop-i
