@@ -1,8 +1,10 @@
 -- Answers told in numbers: what an answer says is what is told. Assumes nothing.
+use Rattle.std.specs.Prelude.{Result}
 use Prim.Native.Nat.{ℕ}
 use mathlib.Core.List.{List}
-use Rattle.rules.specs.declared.Parsed.{Parsed}
-use Rattle.rules.specs.declared.Listed.{Listed}
+use Rattle.rules.specs.declared.Refusal.{Refusal}
+use Rattle.rules.specs.declared.Arguments.{Arguments}
+use Rattle.rules.specs.declared.Entries.{Entries}
 use Rattle.rules.specs.Outcome.{Outcome}
 use Rattle.rules.specs.Record.{Entry}
 use Rattle.rules.specs.Answer.{Said, parsed_said, listed_said, Answered, Read, Listing}
@@ -14,11 +16,11 @@ pub told_written : {o : Outcome (List ℕ)} {said : Said} {number : ℕ} {answer
 told_written a t = record { tells = rw a.says at t; leaves = a.leaves }
 
 -- and so the reader's
-pub told_parsed : {o : Outcome (List (List ℕ))} {r : Parsed} {number : ℕ} {answer text text' spans spans' : List ℕ} → Read o r text text' spans spans'
+pub told_parsed : {o : Outcome (List (List ℕ))} {r : Result Arguments Refusal} {number : ℕ} {answer text text' spans spans' : List ℕ} → Read o r text text' spans spans'
     → Told (parsed_said r) number answer → Gave o number answer text text' spans spans'
 told_parsed a t = record { tells = rw a.says at t; leaves = a.leaves; tabulates = a.tabulates }
 
 -- and the block reader's
-pub told_listed : {o : Outcome (List Entry)} {r : Listed} {number : ℕ} {answer spans spans' : List ℕ} → Listing o r spans spans'
+pub told_listed : {o : Outcome (List Entry)} {r : Result Entries Refusal} {number : ℕ} {answer spans spans' : List ℕ} → Listing o r spans spans'
     → Told (listed_said r) number answer → Tabulated o number answer spans spans'
 told_listed a t = record { tells = rw a.says at t; tabulates = a.tabulates }

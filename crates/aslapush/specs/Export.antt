@@ -1,6 +1,7 @@
 -- What an exported function promises: the same as the entry point under it, in numbers and lent arrays. Assumes nothing.
-use Rattle.std.specs.Prelude.{ℕ, ◌≡◌, Bool, List, [], ◌∷◌, eqb}
+use Rattle.std.specs.Prelude.{ℕ, ◌≡◌, Bool, List, [], ◌∷◌, eqb, Result}
 use Rattle.rules.specs.Choice.{pick, flip}
+use Rattle.rules.specs.declared.Refusal.{Refusal}
 use Rattle.rules.specs.declared.Cached.{Cached}
 use Rattle.rules.specs.Outcome.{Outcome, done, refused, filled}
 use Rattle.rules.specs.Record.{Entry}
@@ -87,12 +88,12 @@ pub record CacheTold (o : Outcome Served) (number : ℕ) (answer : List ℕ) : T
 
 -- the exported lookup: they say what a lookup answers
 pub record LookupTold (index units : List ℕ) (fingerprint : ℕ) (lent : Launch) (number : ℕ) (answer : List ℕ) : Type 0 where
-  pub cached : Cached
+  pub cached : Result Cached Refusal
   pub looks : LooksUp cache_places index units fingerprint lent cached
   pub tells : CacheTold (cached_said cached) number answer
 
 -- the exported storing: they say what a storing answers, which leaves this in index and units
 pub record StoreTold (fingerprint : ℕ) (lent : Launch) (number : ℕ) (answer index units index' units' : List ℕ) : Type 0 where
-  pub cached : Cached
+  pub cached : Result Cached Refusal
   pub stores : Stores cache_places fingerprint lent cached index units index' units'
   pub tells : CacheTold (cached_said cached) number answer

@@ -1,4 +1,5 @@
 -- What the entry point answers, refusal by refusal. Assumes nothing.
+use Rattle.std.specs.Prelude.{Ok, Err}
 use Prim.Native.Nat.{ℕ, zero, suc, ◌≤◌, ◌<◌}
 use native.Mathlib.Omega.{arith}
 use mathlib.Core.Path.{◌≡◌, refl, ap, ◌∙◌}
@@ -7,7 +8,6 @@ use lib.ListN.{length}
 use borrow.Author.Tests.{lt-ltb, le-ltb}
 use Rattle.laws.specs.Fault.{placed}
 use Rattle.laws.specs.Store.{sets_front}
-use Rattle.rules.specs.declared.Filled.TheVariants as Filled
 use Rattle.rules.specs.declared.Refusal.TheVariants as Refusal
 use Rattle.rules.specs.Outcome.{faultless, first_fault, unless, limited}
 use Rattle.rules.specs.Record.{entry_fault, entries_of}
@@ -26,14 +26,14 @@ in_order records text room = refl
 module _ (records text out : List ℕ) where
   -- 1
   pub by_record : (place : ℕ) → entry_fault text records ≡ placed 1 place → (place ≡ 0 → ⊥)
-      → Answered (environment_block records text (length out)) (filled_said (Filled.Refused (Refusal.Record place))) out out
+      → Answered (environment_block records text (length out)) (filled_said (Err (Refusal.Record place))) out out
   by_record zero h z = absurd (z refl)
   by_record (suc place) h z = rw (in_order, h) (record { says = refl; leaves = refl })
 
   module _ (sound : entry_fault text records ≡ faultless) where
     -- 5
     pub by_nul : (place : ℕ) → first_fault entry_nul_finding (entries_of text records) ≡ placed 5 place → (place ≡ 0 → ⊥)
-        → Answered (environment_block records text (length out)) (filled_said (Filled.Refused (Refusal.Nul place))) out out
+        → Answered (environment_block records text (length out)) (filled_said (Err (Refusal.Nul place))) out out
     by_nul zero h z = absurd (z refl)
     by_nul (suc place) h z = rw (in_order, sound, h) (record { says = refl; leaves = refl })
 
@@ -46,7 +46,7 @@ module _ (records text out : List ℕ) where
 
     module _ (clean : first_fault entry_nul_finding (entries_of text records) ≡ faultless) (n : ℕ) (size : n ≡ length counted) where
       -- 2
-      pub by_length : block_limit < n → Answered (environment_block records text (length out)) (filled_said (Filled.Refused Refusal.Length)) out out
+      pub by_length : block_limit < n → Answered (environment_block records text (length out)) (filled_said (Err Refusal.Length)) out out
       by_length h =
           let past : block_limit < length whole = (counts_for block_limit (entries_of text records)).past (rw size at h) in
           rw (in_order, sound, clean, lt-ltb block_limit (length whole) past) (record { says = refl; leaves = refl })
@@ -62,14 +62,14 @@ module _ (records text out : List ℕ) where
         short = omega (arith, fits)
 
         -- 4
-        pub by_room : length out < n → Answered (environment_block records text (length out)) (filled_said (Filled.Refused Refusal.Room)) out out
+        pub by_room : length out < n → Answered (environment_block records text (length out)) (filled_said (Err Refusal.Room)) out out
         by_room h =
             rw (in_order, sound, clean, le-ltb block_limit (length whole) short, lt-ltb (length out) (length whole) (rw fits at h))
             (record { says = refl; leaves = refl })
 
         -- the block
         pub by_block : (after : List ℕ) (r : ℕ) → n ≤ length out → Written 0 counted out after r
-            → Answered (environment_block records text (length out)) (filled_said (Filled.Units n)) out after
+            → Answered (environment_block records text (length out)) (filled_said (Ok n)) out after
         by_block after r h w =
             let l : length whole ≤ length out = rw fits at h in
             rw (in_order, sound, clean, le-ltb block_limit (length whole) short, le-ltb (length out) (length whole) l)

@@ -1,9 +1,9 @@
 -- Building a line as a state and its turns: the records of each pass, and the stage behind it. Assumes nothing.
-use Rattle.std.specs.Prelude.{ℕ, ◌+◌, ◌≡◌, Bool, true, false, List, eqb, leb, ltb, length}
+use Rattle.std.specs.Prelude.{ℕ, ◌+◌, ◌≡◌, Bool, true, false, List, eqb, leb, ltb, length, Result, Ok, Err}
 use Rattle.std.proofs.lemmas.List.Edits.{sets}
 use Rattle.rules.specs.declared.Arg.{Arg}
 use Rattle.rules.specs.declared.Refusal.{Refusal}
-use Rattle.rules.specs.declared.Built.{Built}
+use Rattle.rules.specs.declared.Line.{Line}
 use Rattle.rules.specs.Answer.{refusal_number, refusal_place}
 use Rattle.rules.specs.Choice.{pick, both, any}
 use Rattle.rules.specs.Unit.{is_nul}
@@ -51,8 +51,8 @@ begun batch force count Sound = begun_at batch force count count
 begun batch force count (Wrong place) = stopped (begun_at batch force count count) (Refusal.Record place)
 
 -- the answer of a state that does not go on
-abbrev pub answer_of : Work → Built
-answer_of w = pick (eqb w.number 0) (Built.Line w.units) (Built.Refused (refusal_of w.number w.place))
+abbrev pub answer_of : Work → Result Line Refusal
+answer_of w = pick (eqb w.number 0) (Ok (record { units = w.units })) (Err (refusal_of w.number w.place))
 
 -- ---- the stage behind a pass
 

@@ -1,9 +1,11 @@
 -- What a lookup and a storing say, from what their parts say. Assumes nothing.
+use Rattle.std.specs.Prelude.{Result, Ok, Err}
 use Prim.Native.Nat.{ℕ, ◌≤◌}
 use native.Mathlib.Omega.{arith}
 use mathlib.Core.Path.{◌≡◌, refl, sym, ◌∙◌}
 use mathlib.Core.List.{List, [], ◌∷◌}
 use lib.ListN.{length, set}
+use Rattle.rules.specs.declared.Refusal.{Refusal}
 use Rattle.rules.specs.declared.Cached.{Cached}
 use Rattle.rules.specs.declared.Refusal.TheVariants as Refusal
 use Rattle.rules.specs.Outcome.{Outcome, faultless, fault}
@@ -35,7 +37,7 @@ module _ {places : ℕ} {index units : List ℕ} (fingerprint : ℕ) (lent : Lau
 
   -- the records are at fault
   pub looked_refused : (place : ℕ) → fault 1 place ≡ argument_fault lent.text lent.records
-      → LooksUp places index units fingerprint lent (Cached.Refused (Refusal.Record place))
+      → LooksUp places index units fingerprint lent (Err (Refusal.Record place))
   unfolding looking
   looked_refused place e = record { says = λ es r. rw (← e); lies = tt }
 
@@ -55,7 +57,7 @@ module _ {places : ℕ} {index units : List ℕ} (fingerprint : ℕ) (lent : Lau
 
   -- what the records are at fault for, the builder refuses
   pub stored_refused : (place : ℕ) → fault 1 place ≡ argument_fault lent.text lent.records
-      → Stores places fingerprint lent (Cached.Refused (Refusal.Record place)) index units index units
+      → Stores places fingerprint lent (Err (Refusal.Record place)) index units index units
   unfolding storing
   stored_refused place e =
       let p = fault_first lent 1 place (sym e) in
@@ -68,7 +70,7 @@ module _ {places : ℕ} {index units : List ℕ} (fingerprint : ℕ) (lent : Lau
 
   -- what was found is held
   pub stored_held : {start n : ℕ} → faultless ≡ argument_fault lent.text lent.records → FindsLine places index units fingerprint lent (Found.There start n)
-      → Stores places fingerprint lent (Cached.Held start n) index units index units
+      → Stores places fingerprint lent (Ok (Cached.Held start n)) index units index units
   unfolding storing
   stored_held e f =
       record {
@@ -81,7 +83,7 @@ module _ {places : ℕ} {index units : List ℕ} (fingerprint : ℕ) (lent : Lau
       }
 
   -- what was not found is added, or refused
-  pub stored_new : (r : Cached) {index' units' : List ℕ} → FindsLine places index units fingerprint lent Found.Nowhere
+  pub stored_new : (r : Result Cached Refusal) {index' units' : List ℕ} → FindsLine places index units fingerprint lent Found.Nowhere
       → Adds places fingerprint lent r index units index' units' → Stores places fingerprint lent r index units index' units'
   stored_new r {index'} {units'} f a =
       record {

@@ -1,4 +1,5 @@
 -- What the entry point answers, by what was told of the block. Assumes nothing.
+use Rattle.std.specs.Prelude.{Ok, Err}
 use Prim.Native.Nat.{ℕ, zero, suc, ◌*◌, ◌/◌, ◌≤◌, ◌<◌}
 use native.Mathlib.Omega.{arith}
 use borrow.Author.Tests.{lt-ltb, le-ltb}
@@ -7,7 +8,6 @@ use mathlib.Core.List.{List}
 use lib.ListN.{length}
 use lib.Dec.{ltb}
 use lib.Seq.{sets}
-use Rattle.rules.specs.declared.Listed.TheVariants as Listed
 use Rattle.rules.specs.declared.Refusal.TheVariants as Refusal
 use Rattle.rules.specs.Outcome.{done, refuse, faultless, first_fault, unless}
 use Rattle.rules.specs.Reading.{places_of}
@@ -28,16 +28,16 @@ in_order lent numbers = refl
 
 module _ (lent table : List ℕ) where
   -- 2
-  pub by_length : block_limit < length lent → Listing (block_reading lent (length table)) (Listed.Refused Refusal.Length) table table
+  pub by_length : block_limit < length lent → Listing (block_reading lent (length table)) (Err Refusal.Length) table table
   by_length h = rw (in_order, lt-ltb block_limit (length lent) h) (record { says = refl; tabulates = refl })
 
   module _ {bad count used : ℕ} (short : length lent ≤ block_limit) (told : Tallied lent bad count used) where
     -- 8
-    pub by_entry : ¬ (bad ≡ 0) → Listing (block_reading lent (length table)) (Listed.Refused (Refusal.Entry bad)) table table
+    pub by_entry : ¬ (bad ≡ 0) → Listing (block_reading lent (length table)) (Err (Refusal.Entry bad)) table table
     by_entry nz = go bad told.judges nz
       where
         go : (bad : ℕ) → first_fault piece_finding (lent_entries lent) ≡ placed 8 bad → ¬ (bad ≡ 0)
-            → Listing (block_reading lent (length table)) (Listed.Refused (Refusal.Entry bad)) table table
+            → Listing (block_reading lent (length table)) (Err (Refusal.Entry bad)) table table
         go zero j nz = absurd (nz refl)
         go (suc place) j nz = rw (in_order, le-ltb block_limit (length lent) short, j) (record { says = refl; tabulates = refl })
 
@@ -46,7 +46,7 @@ module _ (lent table : List ℕ) where
       none_bad = no_place 8 told.judges z
 
       -- 3
-      pub by_places : length table / 2 < 2 * count → Listing (block_reading lent (length table)) (Listed.Refused Refusal.Places) table table
+      pub by_places : length table / 2 < 2 * count → Listing (block_reading lent (length table)) (Err Refusal.Places) table table
       by_places h =
           let l : places_of (length table) < 2 * length (entries_read lent) = rw (← told.counts z) h in
           rw (in_order, le-ltb block_limit (length lent) short, none_bad, lt-ltb (places_of (length table)) (2 * length (entries_read lent)) l)
@@ -55,7 +55,7 @@ module _ (lent table : List ℕ) where
       -- the entries
       pub by_entries : {bad' count' used' : ℕ} (table' : List ℕ) → 2 * count ≤ length table / 2 → Tallied lent bad' count' used'
           → (bad' ≡ 0 → table' ≡ sets table 0 (entry_spans (entries_read lent)))
-          → Listing (block_reading lent (length table)) (Listed.Entries count used) table table'
+          → Listing (block_reading lent (length table)) (Ok (record { count = count; units = used })) table table'
       by_entries {bad'} table' h again stored =
           let es = entries_read lent in
           let c = told.counts z in

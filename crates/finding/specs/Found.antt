@@ -1,10 +1,11 @@
 -- An entry found in lent memory of any content, and what is found where the memory stands for entries. Assumes nothing.
-use Rattle.std.specs.Prelude.{ℕ, ◌+◌, ◌-◌, ◌≤◌, min, ◌≡◌, Bool, List, ◌++◌, eqb, length, get_or}
+use Rattle.std.specs.Prelude.{ℕ, ◌+◌, ◌-◌, ◌≤◌, min, ◌≡◌, Bool, List, ◌++◌, eqb, length, get_or, Result, Ok}
 use Rattle.rules.specs.Choice.{both, equal}
 use Rattle.rules.specs.Record.{Argument, part}
 use Rattle.rules.specs.Key.{Launch, key_of}
 use Rattle.rules.specs.Cache.{CacheEntry, Standing, there, nowhere, standing}
 use Rattle.rules.specs.Store.{code_of, flag_word, Represents}
+use Rattle.rules.specs.declared.Refusal.{Refusal}
 use Rattle.rules.specs.declared.Cached.{Cached}
 use Rattle.finding.specs.declared.Found.{Found}
 
@@ -31,9 +32,9 @@ found_said (Found.There start units) = there start units
 found_said Found.Nowhere = nowhere
 
 -- what a lookup answers to it
-abbrev pub hit_of : Found → Cached
+abbrev pub hit_of : Found → Result Cached Refusal
 hit_of (Found.There start units) = Cached.Hit start units
-hit_of Found.Nowhere = Cached.Missed
+hit_of Found.Nowhere = (Ok Cached.Missed)
 
 -- what is found lies within so many units
 abbrev pub Lies : ℕ → Found → Type 0

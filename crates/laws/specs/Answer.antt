@@ -1,11 +1,10 @@
 -- What an answer says names it, so a contract allows one answer and one content of lent memory. Assumes nothing.
-use Rattle.std.specs.Prelude.{ℕ, ◌≡◌, refl, false, List, eqb}
+use Rattle.std.specs.Prelude.{ℕ, ◌≡◌, refl, false, List, eqb, Result, Ok, Err}
 use Rattle.std.proofs.Common.{sym, ap, ◌∙◌}
 use Rattle.rules.specs.declared.Refusal.{Refusal}
-use Rattle.rules.specs.declared.Built.{Built}
-use Rattle.rules.specs.declared.Filled.{Filled}
-use Rattle.rules.specs.declared.Parsed.{Parsed}
-use Rattle.rules.specs.declared.Listed.{Listed}
+use Rattle.rules.specs.declared.Line.{Line}
+use Rattle.rules.specs.declared.Arguments.{Arguments}
+use Rattle.rules.specs.declared.Entries.{Entries}
 use Rattle.rules.specs.declared.Cached.{Cached}
 use Rattle.rules.specs.Choice.{pick}
 use Rattle.rules.specs.Outcome.{Outcome, done, refused}
@@ -39,20 +38,20 @@ refusal_back Refusal.Script = refl
 refusal_back (Refusal.Entry place) = refl
 
 -- the answer of a builder of lines that says so
-unfoldable built_of : Said → Built
-built_of s = pick (eqb s.number 0) (Built.Line s.units) (Built.Refused (refusal_of s.number s.place))
+unfoldable built_of : Said → Result Line Refusal
+built_of s = pick (eqb s.number 0) (Ok (record { units = s.units })) (Err (refusal_of s.number s.place))
 
 -- the answer of a writer of other units that says so
-unfoldable filled_of : Said → Filled
-filled_of s = pick (eqb s.number 0) (Filled.Units s.units) (Filled.Refused (refusal_of s.number s.place))
+unfoldable filled_of : Said → Result ℕ Refusal
+filled_of s = pick (eqb s.number 0) (Ok s.units) (Err (refusal_of s.number s.place))
 
 -- the reader's answer that says so
-unfoldable parsed_of : Said → Parsed
-parsed_of s = pick (eqb s.number 0) (Parsed.Arguments s.arguments s.units) (Parsed.Refused (refusal_of s.number s.place))
+unfoldable parsed_of : Said → Result Arguments Refusal
+parsed_of s = pick (eqb s.number 0) (Ok (record { count = s.arguments; units = s.units })) (Err (refusal_of s.number s.place))
 
 -- the block reader's answer that says so
-unfoldable listed_of : Said → Listed
-listed_of s = pick (eqb s.number 0) (Listed.Entries s.arguments s.units) (Listed.Refused (refusal_of s.number s.place))
+unfoldable listed_of : Said → Result Entries Refusal
+listed_of s = pick (eqb s.number 0) (Ok (record { count = s.arguments; units = s.units })) (Err (refusal_of s.number s.place))
 
 -- a refusal's number is not 0
 pub some_number : (r : Refusal) → eqb (refusal_number r) 0 ≡ false
@@ -65,25 +64,25 @@ some_number (Refusal.LineBreak place) = refl
 some_number Refusal.Script = refl
 some_number (Refusal.Entry place) = refl
 
-built_back : (r : Built) → built_of (built_said r) ≡ r
+built_back : (r : Result Line Refusal) → built_of (built_said r) ≡ r
 unfolding built_of
-built_back (Built.Line units) = refl
-built_back (Built.Refused r) = rw (some_number r, refusal_back r)
+built_back (Ok line) = refl
+built_back (Err r) = rw (some_number r, refusal_back r)
 
-filled_back : (r : Filled) → filled_of (filled_said r) ≡ r
+filled_back : (r : Result ℕ Refusal) → filled_of (filled_said r) ≡ r
 unfolding filled_of
-filled_back (Filled.Units units) = refl
-filled_back (Filled.Refused r) = rw (some_number r, refusal_back r)
+filled_back (Ok units) = refl
+filled_back (Err r) = rw (some_number r, refusal_back r)
 
-parsed_back : (r : Parsed) → parsed_of (parsed_said r) ≡ r
+parsed_back : (r : Result Arguments Refusal) → parsed_of (parsed_said r) ≡ r
 unfolding parsed_of
-parsed_back (Parsed.Arguments count units) = refl
-parsed_back (Parsed.Refused r) = rw (some_number r, refusal_back r)
+parsed_back (Ok arguments) = refl
+parsed_back (Err r) = rw (some_number r, refusal_back r)
 
-listed_back : (r : Listed) → listed_of (listed_said r) ≡ r
+listed_back : (r : Result Entries Refusal) → listed_of (listed_said r) ≡ r
 unfolding listed_of
-listed_back (Listed.Entries count units) = refl
-listed_back (Listed.Refused r) = rw (some_number r, refusal_back r)
+listed_back (Ok entries) = refl
+listed_back (Err r) = rw (some_number r, refusal_back r)
 
 -- ---- what is said names the answer
 
@@ -129,7 +128,7 @@ answered_once tells o before r r' after after' a b = (tells r r' (a.says ∙ sym
 -- any two answers of the reader to one outcome, and what they leave of one output and of one table, are equal
 abbrev pub OneReading : Outcome (List (List ℕ)) → List ℕ → List ℕ → Type 0
 OneReading o text spans =
-    (r r' : Parsed) (text' text'' spans' spans'' : List ℕ) → Read o r text text' spans spans' → Read o r' text text'' spans spans''
+    (r r' : Result Arguments Refusal) (text' text'' spans' spans'' : List ℕ) → Read o r text text' spans spans' → Read o r' text text'' spans spans''
     → (r ≡ r') × (text' ≡ text'') × (spans' ≡ spans'')
 
 -- the reader's contract allows one, whatever the outcome
@@ -139,7 +138,7 @@ read_once o text spans r r' text' text'' spans' spans'' a b =
 
 -- any two answers of the block reader to one outcome, and what they leave of one table, are equal
 abbrev pub OneListing : Outcome (List Entry) → List ℕ → Type 0
-OneListing o spans = (r r' : Listed) (spans' spans'' : List ℕ) → Listing o r spans spans' → Listing o r' spans spans'' → (r ≡ r') × (spans' ≡ spans'')
+OneListing o spans = (r r' : Result Entries Refusal) (spans' spans'' : List ℕ) → Listing o r spans spans' → Listing o r' spans spans'' → (r ≡ r') × (spans' ≡ spans'')
 
 -- the block reader's contract allows one, whatever the outcome
 pub listed_once : (o : Outcome (List Entry)) (spans : List ℕ) → OneListing o spans
@@ -148,22 +147,22 @@ listed_once o spans r r' spans' spans'' a b = (listed_one r r' (a.says ∙ sym b
 -- ---- the launch line cache
 
 -- the answer of a call of the cache that says so
-cached_of : Outcome Served → Cached
+cached_of : Outcome Served → Result Cached Refusal
 unfolding refusal_of
-cached_of (done missed) = Cached.Missed
-cached_of (done (hit start size)) = Cached.Hit start size
-cached_of (done (held start size)) = Cached.Held start size
-cached_of (done (stored start size)) = Cached.Stored start size
-cached_of (refused number place) = Cached.Refused (refusal_of number place)
+cached_of (done missed) = Ok Cached.Missed
+cached_of (done (hit start size)) = Ok (Cached.Hit start size)
+cached_of (done (held start size)) = Ok (Cached.Held start size)
+cached_of (done (stored start size)) = Ok (Cached.Stored start size)
+cached_of (refused number place) = Err (refusal_of number place)
 
-cached_back : (r : Cached) → cached_of (cached_said r) ≡ r
+cached_back : (r : Result Cached Refusal) → cached_of (cached_said r) ≡ r
 unfolding cached_of
-cached_back Cached.Missed = refl
-cached_back (Cached.Hit start size) = refl
-cached_back (Cached.Held start size) = refl
-cached_back (Cached.Stored start size) = refl
-cached_back (Cached.Refused r) = ap Cached.Refused (refusal_back r)
+cached_back (Ok Cached.Missed) = refl
+cached_back (Ok (Cached.Hit start size)) = refl
+cached_back (Ok (Cached.Held start size)) = refl
+cached_back (Ok (Cached.Stored start size)) = refl
+cached_back (Err r) = ap Err (refusal_back r)
 
 -- answers of the cache that say the same are one
-pub cached_one : (r r' : Cached) → cached_said r ≡ cached_said r' → r ≡ r'
+pub cached_one : (r r' : Result Cached Refusal) → cached_said r ≡ cached_said r' → r ≡ r'
 cached_one r r' e = sym (cached_back r) ∙ ap cached_of e ∙ cached_back r'

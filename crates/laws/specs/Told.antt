@@ -1,9 +1,7 @@
 -- From an answer back to the outcome that it says, and to what lies in lent memory. Assumes nothing.
-use Rattle.std.specs.Prelude.{ℕ, ◌*◌, ◌≤◌, ◌≡◌, refl, false, List, length, eqb}
+use Rattle.std.specs.Prelude.{ℕ, ◌*◌, ◌≤◌, ◌≡◌, refl, false, List, length, eqb, Ok, Err}
 use Rattle.std.proofs.Common.{arith, sym, ap}
 use Rattle.rules.specs.declared.Refusal.{Refusal}
-use Rattle.rules.specs.declared.Parsed.TheVariants as Parsed
-use Rattle.rules.specs.declared.Listed.TheVariants as Listed
 use Rattle.rules.specs.Outcome.{Outcome, done, refused}
 use Rattle.rules.specs.Record.{Entry}
 use Rattle.rules.specs.Reading.{joined, spans_of, places_of}
@@ -38,13 +36,13 @@ told_refused (done result) {q} a = no_result q a.says
 told_refused (refused number place) a = (record { number = number; place = place; decided = refl; said = a.says }, a.leaves)
 
 -- a reader that answers with a refusal leaves output and table as they were
-pub told_unread : (o : Outcome (List (List ℕ))) {q : Refusal} {text text' spans spans' : List ℕ} → Read o (Parsed.Refused q) text text' spans spans'
+pub told_unread : (o : Outcome (List (List ℕ))) {q : Refusal} {text text' spans spans' : List ℕ} → Read o (Err q) text text' spans spans'
     → Refusing o q × (text' ≡ text) × (spans' ≡ spans)
 told_unread (done args) {q} a = no_result q a.says
 told_unread (refused number place) a = (record { number = number; place = place; decided = refl; said = a.says }, a.leaves, a.tabulates)
 
 -- a block reader that answers with a refusal leaves the table as it was
-pub told_unlisted : (o : Outcome (List Entry)) {q : Refusal} {spans spans' : List ℕ} → Listing o (Listed.Refused q) spans spans'
+pub told_unlisted : (o : Outcome (List Entry)) {q : Refusal} {spans spans' : List ℕ} → Listing o (Err q) spans spans'
     → Refusing o q × (spans' ≡ spans)
 told_unlisted (done entries) {q} a = no_result q a.says
 told_unlisted (refused number place) a = (record { number = number; place = place; decided = refl; said = a.says }, a.tabulates)
@@ -86,7 +84,7 @@ told_written (refused number place) never fits a =
 -- and the reader likewise
 pub told_given : (o : Outcome (List (List ℕ))) {count units : ℕ} {text text' spans spans' : List ℕ} → ((place : ℕ) → ¬ (o ≡ refused 0 place))
     → ((args : List (List ℕ)) → o ≡ done args → (length (joined args) ≤ length text) × (length args ≤ places_of (length spans)))
-    → Read o (Parsed.Arguments count units) text text' spans spans' → Giving o count units text text' spans spans'
+    → Read o (Ok (record { count = count; units = units })) text text' spans spans' → Giving o count units text text' spans spans'
 told_given (done args) {count} {units} {text} {spans = spans} never fits a =
     let e : count ≡ length args = ap (λ (s : Said). s.arguments) a.says in
     let f : units ≡ length (joined args) = ap (λ (s : Said). s.units) a.says in
@@ -106,7 +104,7 @@ told_given (refused number place) never fits a =
 -- and the block reader
 pub told_listed : (o : Outcome (List Entry)) {count units : ℕ} {spans spans' : List ℕ} → ((place : ℕ) → ¬ (o ≡ refused 0 place))
     → ((entries : List Entry) → o ≡ done entries → 2 * length entries ≤ places_of (length spans))
-    → Listing o (Listed.Entries count units) spans spans' → Naming o count units spans spans'
+    → Listing o (Ok (record { count = count; units = units })) spans spans' → Naming o count units spans spans'
 told_listed (done entries) {count} {spans = spans} never fits a =
     let e : count ≡ length entries = ap (λ (s : Said). s.arguments) a.says in
     let wide : length (entry_spans entries) ≤ length spans = rw (entry_spans_length 0 entries) (omega (arith, fits entries refl)) in

@@ -1,8 +1,8 @@
 -- What an answer tells: a refusal changes nothing, a result fills the front and keeps the rest. Assumes nothing.
-use Rattle.std.specs.Prelude.{ℕ, ◌≡◌, Bool, List, length}
+use Rattle.std.specs.Prelude.{ℕ, ◌≡◌, Bool, List, length, Result, Ok, Err}
 use Rattle.rules.specs.declared.Refusal.{Refusal}
-use Rattle.rules.specs.declared.Parsed.{Parsed}
-use Rattle.rules.specs.declared.Listed.{Listed}
+use Rattle.rules.specs.declared.Arguments.{Arguments}
+use Rattle.rules.specs.declared.Entries.{Entries}
 use Rattle.rules.specs.Outcome.{Outcome, refused}
 use Rattle.rules.specs.Record.{Entry}
 use Rattle.rules.specs.Answer.{Said, refusal, wrote, refusal_said, parsed_said, listed_said, Answered, Read, Listing}
@@ -27,12 +27,12 @@ pub refusal_keeps : {number place : ℕ} {said : Said} {before after : List ℕ}
 refusal_keeps a = (a.says, a.leaves)
 
 -- where the reader's outcome is a refusal, the answer says it with counts 0, and no lent unit and no table place changes
-pub read_refusal_keeps : {number place : ℕ} {r : Parsed} {text text' spans spans' : List ℕ} → Read (refused number place) r text text' spans spans'
+pub read_refusal_keeps : {number place : ℕ} {r : Result Arguments Refusal} {text text' spans spans' : List ℕ} → Read (refused number place) r text text' spans spans'
     → (parsed_said r ≡ refusal number place) × (text' ≡ text) × (spans' ≡ spans)
 read_refusal_keeps a = (a.says, a.leaves, a.tabulates)
 
 -- where the block reader's outcome is a refusal, the answer says it with counts 0, and no table place changes
-pub entries_refusal_keeps : {number place : ℕ} {r : Listed} {spans spans' : List ℕ} → Listing (refused number place) r spans spans'
+pub entries_refusal_keeps : {number place : ℕ} {r : Result Entries Refusal} {spans spans' : List ℕ} → Listing (refused number place) r spans spans'
     → (listed_said r ≡ refusal number place) × (spans' ≡ spans)
 entries_refusal_keeps a = (a.says, a.tabulates)
 
@@ -43,11 +43,11 @@ refused_answer {o} a = told_refused o a
 
 -- a reader that answers so was refused likewise, and no lent unit and no table place has changed
 pub read_refused_answer : {o : Outcome (List (List ℕ))} {q : Refusal} {text text' spans spans' : List ℕ}
-    → Read o (Parsed.Refused q) text text' spans spans' → Refusing o q × (text' ≡ text) × (spans' ≡ spans)
+    → Read o (Err q) text text' spans spans' → Refusing o q × (text' ≡ text) × (spans' ≡ spans)
 read_refused_answer {o} a = told_unread o a
 
 -- and so is a block reader
-pub entries_refused_answer : {o : Outcome (List Entry)} {q : Refusal} {spans spans' : List ℕ} → Listing o (Listed.Refused q) spans spans'
+pub entries_refused_answer : {o : Outcome (List Entry)} {q : Refusal} {spans spans' : List ℕ} → Listing o (Err q) spans spans'
     → Refusing o q × (spans' ≡ spans)
 entries_refused_answer {o} a = told_unlisted o a
 
@@ -80,7 +80,7 @@ module _ {n : ℕ} {before after : List ℕ} where
 -- parse_lp_cmd_line: the answer counts arguments and units; texts and spans are the fronts of output and table, and the rests are kept
 pub parse_answer : (executable lent : List ℕ) {count units : ℕ} {text text' spans spans' : List ℕ} →
     let o = reading executable lent (length text) (length spans) in
-    Read o (Parsed.Arguments count units) text text' spans spans' → Giving o count units text text' spans spans'
+    Read o (Ok (record { count = count; units = units })) text text' spans spans' → Giving o count units text text' spans spans'
 parse_answer executable lent {text = text} {spans = spans} a =
     told_given _
     (read_numbered executable lent (length text) (length spans))
@@ -89,6 +89,6 @@ parse_answer executable lent {text = text} {spans = spans} a =
 
 -- read_envp: the answer counts entries and the units used; the spans are the front of the table, and the rest is kept
 pub entries_answer : (lent : List ℕ) {count units : ℕ} {spans spans' : List ℕ} → let o = block_reading lent (length spans) in
-    Listing o (Listed.Entries count units) spans spans' → Naming o count units spans spans'
+    Listing o (Ok (record { count = count; units = units })) spans spans' → Naming o count units spans spans'
 entries_answer lent {spans = spans} a =
     told_listed _ (entries_numbered lent (length spans)) (λ entries e. (entries_whole lent (length spans) entries e).0) a

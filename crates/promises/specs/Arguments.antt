@@ -1,7 +1,8 @@
 -- One argument's part after reading, and the round trip from the builder's contract over the reader's to each argument. Assumes nothing.
-use Rattle.std.specs.Prelude.{ℕ, ◌≤◌, ◌<◌, ◌≡◌, Bool, false, List, [], ◌∷◌, length, get_or, take}
+use Rattle.std.specs.Prelude.{ℕ, ◌≤◌, ◌<◌, ◌≡◌, Bool, false, List, [], ◌∷◌, length, get_or, take, Result, Ok}
 use Rattle.std.proofs.Common.{arith, ◌∙◌}
-use Rattle.rules.specs.declared.Parsed.{Parsed}
+use Rattle.rules.specs.declared.Refusal.{Refusal}
+use Rattle.rules.specs.declared.Arguments.{Arguments}
 use Rattle.rules.specs.Choice.{any}
 use Rattle.rules.specs.Unit.{is_quote}
 use Rattle.rules.specs.Outcome.{done}
@@ -18,7 +19,7 @@ use Rattle.promises.specs.Answers.{line_answer}
 
 -- ---- after a reading that gave these arguments
 
-module _ (executable lent text spans : List ℕ) {r : Parsed} {text' spans' : List ℕ} {args : List (List ℕ)}
+module _ (executable lent text spans : List ℕ) {r : Result Arguments Refusal} {text' spans' : List ℕ} {args : List (List ℕ)}
     (given : reading executable lent (length text) (length spans) ≡ done args)
     (a : Read (reading executable lent (length text) (length spans)) r text text' spans spans') where
   fits : length args ≤ places_of (length spans)
@@ -37,20 +38,20 @@ module _ (executable lent text spans : List ℕ) {r : Parsed} {text' spans' : Li
   part_empty i h = part_behind i (omega (arith, fits)) ∙ part_missing text' spans i h
 
   -- the answer counts the arguments and their units
-  pub answer_counts : r ≡ Parsed.Arguments (length args) (length (joined args))
+  pub answer_counts : r ≡ Ok (record { count = length args; units = length (joined args) })
   answer_counts = parsed_one r _ (a.says ∙ rw given)
 
 -- ---- build, read, and take each argument
 
 -- the reader's answer, and the part of each index, are those of the list
-pub record ReadAs (r : Parsed) (text spans : List ℕ) (list : List (List ℕ)) : Type 0 where
-  pub answer : r ≡ Parsed.Arguments (length list) (length (joined list))
+pub record ReadAs (r : Result Arguments Refusal) (text spans : List ℕ) (list : List (List ℕ)) : Type 0 where
+  pub answer : r ≡ Ok (record { count = length list; units = length (joined list) })
   pub each : (i : ℕ) → i < length list → argument_part text spans i ≡ get_or list i []
 
 module _ (force : Bool) (program records text : List ℕ) {n : ℕ} {out out' : List ℕ}
     (b : Answered (command_line force program records text (length out)) (wrote n) out out')
     (unquoted : any is_quote program ≡ false) (regular : any is_raw (arguments_of text records) ≡ false)
-    (executable : List ℕ) {r : Parsed} {texts texts' spans spans' : List ℕ}
+    (executable : List ℕ) {r : Result Arguments Refusal} {texts texts' spans spans' : List ℕ}
     (c : Read (reading executable (take n out') (length texts) (length spans)) r texts texts' spans spans') where
   -- the program and the units of each argument, in order
   abbrev list : List (List ℕ)

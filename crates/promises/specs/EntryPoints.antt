@@ -1,9 +1,9 @@
 -- The readers, the line builders and the block builder, as worthless programs are judged: what can be lent, and what is merely copied. Assumes nothing.
-use Rattle.std.specs.Prelude.{ℕ, ◌+◌, ◌<◌, ◌≡◌, Bool, false, List, [], ◌∷◌, ◌++◌, map, leb, length}
-use Rattle.rules.specs.declared.Built.{Built}
-use Rattle.rules.specs.declared.Filled.{Filled}
-use Rattle.rules.specs.declared.Parsed.{Parsed}
-use Rattle.rules.specs.declared.Listed.{Listed}
+use Rattle.std.specs.Prelude.{ℕ, ◌+◌, ◌<◌, ◌≡◌, Bool, false, List, [], ◌∷◌, ◌++◌, map, leb, length, Result}
+use Rattle.rules.specs.declared.Refusal.{Refusal}
+use Rattle.rules.specs.declared.Line.{Line}
+use Rattle.rules.specs.declared.Arguments.{Arguments}
+use Rattle.rules.specs.declared.Entries.{Entries}
 use Rattle.rules.specs.Choice.{any}
 use Rattle.rules.specs.Unit.{nul}
 use Rattle.rules.specs.Outcome.{Outcome, done, over}
@@ -71,7 +71,7 @@ abbrev pub reader : EntryPoint
 reader =
     record {
       Input = ToRead;
-      Answer = Parsed;
+      Answer = Result Arguments Refusal;
       Memory = List ℕ × List ℕ;
       held = λ x. (x.text, x.spans);
       said = parsed_said;
@@ -95,7 +95,7 @@ abbrev pub block_reader : EntryPoint
 block_reader =
     record {
       Input = ToList;
-      Answer = Listed;
+      Answer = Result Entries Refusal;
       Memory = List ℕ;
       held = λ x. x.spans;
       said = listed_said;
@@ -140,7 +140,7 @@ abbrev pub line_builder : Writer
 line_builder =
     record {
       Input = ToBuild;
-      Answer = Built;
+      Answer = Result Line Refusal;
       said = built_said;
       out = λ x. x.out;
       outcome = λ x. command_line x.force x.program x.records x.text (length x.out);
@@ -153,7 +153,7 @@ abbrev pub batch_builder : Writer
 batch_builder =
     record {
       Input = ToBuild;
-      Answer = Built;
+      Answer = Result Line Refusal;
       said = built_said;
       out = λ x. x.out;
       outcome = λ x. batch_command_line x.force x.program x.records x.text (length x.out);
@@ -176,7 +176,7 @@ abbrev pub block_builder : Writer
 block_builder =
     record {
       Input = ToFill;
-      Answer = Filled;
+      Answer = Result ℕ Refusal;
       said = filled_said;
       out = λ x. x.out;
       outcome = λ x. environment_block x.records x.text (length x.out);

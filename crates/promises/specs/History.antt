@@ -1,9 +1,10 @@
 -- The launch line cache after any calls. Assumes nothing.
 -- "All this is said of a store made empty and changed only by these calls." (02, E3)
-use Rattle.std.specs.Prelude.{ℕ, ◌+◌, ◌-◌, ◌*◌, ◌≤◌, ◌<◌, ◌≡◌, refl, Bool, true, false, List, [], ◌∷◌, ◌++◌, ltb, leb, length, drop}
+use Rattle.std.specs.Prelude.{ℕ, ◌+◌, ◌-◌, ◌*◌, ◌≤◌, ◌<◌, ◌≡◌, refl, Bool, true, false, List, [], ◌∷◌, ◌++◌, ltb, leb, length, drop, Result}
 use Rattle.std.proofs.Common.{zero-le, arith, leb-false, ltb-false, ap, ◌∙◌, length-append, length-drop}
 use Rattle.std.proofs.Math.Path.{subst⁻¹}
 use Rattle.std.proofs.Math.Seq.{drop-append_seam}
+use Rattle.rules.specs.declared.Refusal.{Refusal}
 use Rattle.rules.specs.declared.Cached.{Cached}
 use Rattle.rules.specs.Outcome.{Outcome, done, refused, refuse, over}
 use Rattle.rules.specs.Key.{Launch, key_of, prepared}
@@ -20,7 +21,7 @@ pub data After : List Call → List ℕ → List ℕ → Type 0 where
   after_make : {index index' : List ℕ} (units : List ℕ) → 2 + 6 * cache_places ≤ length index → Empties index index' → After [] index' units
   after_lookup : {calls : List Call} {index units : List ℕ} (fingerprint : ℕ) (lent : Launch) → After calls index units
       → After (lookup fingerprint lent ∷ calls) index units
-  after_store : {calls : List Call} {index units index' units' : List ℕ} (fingerprint : ℕ) (lent : Launch) (r : Cached) → After calls index units
+  after_store : {calls : List Call} {index units index' units' : List ℕ} (fingerprint : ℕ) (lent : Launch) (r : Result Cached Refusal) → After calls index units
       → Stores cache_places fingerprint lent r index units index' units' → After (store fingerprint lent ∷ calls) index' units'
   after_clear : {calls : List Call} {index units index' : List ℕ} → After calls index units → Empties index index' → After (clear ∷ calls) index' units
 
@@ -140,7 +141,7 @@ pub represented : {calls : List Call} {index units : List ℕ} → After calls i
 represented a = (kept a).stands
 
 -- a storing lends the units on: as many as before
-pub units_kept : {calls : List Call} {index units index' units' : List ℕ} → After calls index units → (fingerprint : ℕ) (lent : Launch) (r : Cached)
+pub units_kept : {calls : List Call} {index units index' units' : List ℕ} → After calls index units → (fingerprint : ℕ) (lent : Launch) (r : Result Cached Refusal)
     → Stores cache_places fingerprint lent r index units index' units' → length units' ≡ length units
 units_kept {calls} {index} {units} a fingerprint lent r s =
     let k = kept a in

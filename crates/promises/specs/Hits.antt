@@ -1,6 +1,7 @@
 -- When a lookup of the launch line cache hits. Assumes nothing.
-use Rattle.std.specs.Prelude.{ℕ, ◌≡◌, refl, ◌↔◌, Bool, true, false, List, [], ◌∷◌, ◌++◌}
+use Rattle.std.specs.Prelude.{ℕ, ◌≡◌, refl, ◌↔◌, Bool, true, false, List, [], ◌∷◌, ◌++◌, Result, Ok, Err}
 use Rattle.std.proofs.Common.{arith, sym, ap, ◌∙◌}
+use Rattle.rules.specs.declared.Refusal.{Refusal}
 use Rattle.rules.specs.declared.Cached.{Cached}
 use Rattle.rules.specs.Choice.{any}
 use Rattle.rules.specs.Outcome.{done, refused, Fault, faultless, fault, unless}
@@ -17,32 +18,32 @@ use Rattle.promises.specs.OwnLine.{own_line}
 use Rattle.promises.specs.History.{After, entries_after, represented}
 
 -- the answer is a hit
-abbrev pub is_hit : Cached → Bool
-is_hit Cached.Missed = false
-is_hit (Cached.Hit start size) = true
-is_hit (Cached.Held start size) = false
-is_hit (Cached.Stored start size) = false
-is_hit (Cached.Refused r) = false
+abbrev pub is_hit : Result Cached Refusal → Bool
+is_hit (Ok Cached.Missed) = false
+is_hit (Ok (Cached.Hit start size)) = true
+is_hit (Ok (Cached.Held start size)) = false
+is_hit (Ok (Cached.Stored start size)) = false
+is_hit (Err r) = false
 
 -- it says whether the key stands somewhere
-hit_says : (r : Cached) (t : Standing) → cached_said r ≡ done (hit_at t) → is_hit r ≡ is_there t
-hit_says (Cached.Hit start size) (there s n) e = refl
-hit_says Cached.Missed nowhere e = refl
-hit_says Cached.Missed (there s n) e = let z : ◌≡◌ {A = ℕ} 0 1 = cc in absurd (omega arith)
-hit_says (Cached.Hit start size) nowhere e = let z : ◌≡◌ {A = ℕ} 0 1 = cc in absurd (omega arith)
-hit_says (Cached.Held start size) (there s n) e = let z : ◌≡◌ {A = ℕ} 0 1 = cc in absurd (omega arith)
-hit_says (Cached.Held start size) nowhere e = refl
-hit_says (Cached.Stored start size) (there s n) e = let z : ◌≡◌ {A = ℕ} 0 1 = cc in absurd (omega arith)
-hit_says (Cached.Stored start size) nowhere e = refl
-hit_says (Cached.Refused q) (there s n) e = let z : ◌≡◌ {A = ℕ} 0 1 = cc in absurd (omega arith)
-hit_says (Cached.Refused q) nowhere e = refl
+hit_says : (r : Result Cached Refusal) (t : Standing) → cached_said r ≡ done (hit_at t) → is_hit r ≡ is_there t
+hit_says (Ok (Cached.Hit start size)) (there s n) e = refl
+hit_says (Ok Cached.Missed) nowhere e = refl
+hit_says (Ok Cached.Missed) (there s n) e = let z : ◌≡◌ {A = ℕ} 0 1 = cc in absurd (omega arith)
+hit_says (Ok (Cached.Hit start size)) nowhere e = let z : ◌≡◌ {A = ℕ} 0 1 = cc in absurd (omega arith)
+hit_says (Ok (Cached.Held start size)) (there s n) e = let z : ◌≡◌ {A = ℕ} 0 1 = cc in absurd (omega arith)
+hit_says (Ok (Cached.Held start size)) nowhere e = refl
+hit_says (Ok (Cached.Stored start size)) (there s n) e = let z : ◌≡◌ {A = ℕ} 0 1 = cc in absurd (omega arith)
+hit_says (Ok (Cached.Stored start size)) nowhere e = refl
+hit_says (Err q) (there s n) e = let z : ◌≡◌ {A = ℕ} 0 1 = cc in absurd (omega arith)
+hit_says (Err q) nowhere e = refl
 
 -- a fault that refuses
 faulty : (f : Fault) (x : Served) {number place : ℕ} → unless f (done x) ≡ refused number place → f ≡ fault number place
 faulty faultless x e = let z : ◌≡◌ {A = ℕ} 0 1 = cc in absurd (omega arith)
 faulty (fault number place) x e = cc
 
-module _ {calls : List Call} {index units : List ℕ} (a : After calls index units) (fingerprint : ℕ) (lent : Launch) (r : Cached)
+module _ {calls : List Call} {index units : List ℕ} (a : After calls index units) (fingerprint : ℕ) (lent : Launch) (r : Result Cached Refusal)
     (l : LooksUp cache_places index units fingerprint lent r) where
   -- the entries that the calls left
   abbrev es : List CacheEntry
@@ -73,13 +74,13 @@ module _ {calls : List Call} {index units : List ℕ} (a : After calls index uni
 module _ {calls : List Call} {index units : List ℕ} (a : After calls index units) (before : List CacheEntry) (e : CacheEntry) (behind : List CacheEntry)
     (among : entries_after calls units ≡ before ++ e ∷ behind) (lent : Launch) (own : key_of lent ≡ e.key)
     (sound : argument_fault lent.text lent.records ≡ faultless) where
-  pub entry_found : (r : Cached) → LooksUp cache_places index units e.fingerprint lent r → is_hit r ≡ true
+  pub entry_found : (r : Result Cached Refusal) → LooksUp cache_places index units e.fingerprint lent r → is_hit r ≡ true
   entry_found r l =
       let key = key_of lent in
       let t : answers_to e.fingerprint key e ≡ true = (answers_exactly e.fingerprint key e).1 (refl, sym own) in
       hits_exactly a e.fingerprint lent r l sound ∙ rw among (any_behind (answers_to e.fingerprint key) before (e ∷ behind) (rw t))
 
-  pub entry_own : (start size : ℕ) → LooksUp cache_places index units e.fingerprint lent (Cached.Hit start size) → part units start size ≡ e.line
+  pub entry_own : (start size : ℕ) → LooksUp cache_places index units e.fingerprint lent (Ok (Cached.Hit start size)) → part units start size ≡ e.line
   entry_own start size l =
       let o = own_line a e.fingerprint lent start size l in
       let all = (represented a).lines in

@@ -1,5 +1,5 @@
 -- A line that the launch line cache hands back is never another list's. Assumes nothing.
-use Rattle.std.specs.Prelude.{ℕ, ◌+◌, ◌≤◌, ◌≡◌, refl, false, List, ◌∷◌, ◌++◌, length}
+use Rattle.std.specs.Prelude.{ℕ, ◌+◌, ◌≤◌, ◌≡◌, refl, false, List, ◌∷◌, ◌++◌, length, Ok}
 use Rattle.std.proofs.Common.{zero-add, arith, sym, ap, ◌∙◌}
 use Rattle.rules.specs.declared.Cached.TheVariants as Cached
 use Rattle.rules.specs.Choice.{any}
@@ -70,7 +70,7 @@ hit_found (fault number place) t e = let z : ◌≡◌ {A = ℕ} 0 1 = cc in abs
 -- For the auditor: after any calls on a store that was made empty, where a lookup answers a hit, the part of the units that it hands back is the own line of
 -- what was looked up, whatever fingerprint was given.
 pub own_line : {calls : List Call} {index units : List ℕ} → After calls index units → (fingerprint : ℕ) (lent : Launch) (start size : ℕ)
-    → LooksUp cache_places index units fingerprint lent (Cached.Hit start size) → OwnLine (entries_after calls units) fingerprint lent (part units start size)
+    → LooksUp cache_places index units fingerprint lent (Ok (Cached.Hit start size)) → OwnLine (entries_after calls units) fingerprint lent (part units start size)
 unfolding looking
 own_line {calls} {index} {units} a fingerprint lent start size l =
     let es = entries_after calls units in

@@ -1,10 +1,11 @@
 -- What a storing of the launch line cache comes to, and what it leaves to be found. Assumes nothing.
 -- "the builder's refusals save 4 pass through first .. Then 3 if all entries are used, then 4 exactly if that is more than the units left." (02, E3)
-use Rattle.std.specs.Prelude.{ℕ, ◌+◌, ◌-◌, ◌≤◌, ◌<◌, ◌≡◌, ◌↔◌, Bool, true, false, eqb, ltb, leb}
+use Rattle.std.specs.Prelude.{ℕ, ◌+◌, ◌-◌, ◌≤◌, ◌<◌, ◌≡◌, ◌↔◌, Bool, true, false, eqb, ltb, leb, Result, Ok}
 use Rattle.std.proofs.Common.{zero-add, arith, leb-true, leb-false, ltb-true, ltb-false, ◌∙◌, length-append}
 use Rattle.std.proofs.Math.Path.{refl, sym, ap, subst⁻¹}
 use mathlib.Core.List.{List, [], ◌∷◌, ◌++◌}
 use Rattle.std.proofs.Math.ListN.{length}
+use Rattle.rules.specs.declared.Refusal.{Refusal}
 use Rattle.rules.specs.declared.Cached.{Cached}
 use Rattle.rules.specs.Choice.{pick, either, any}
 use Rattle.rules.specs.Outcome.{Outcome, done, refused, refuse, faultless}
@@ -172,7 +173,7 @@ module _ (places room fingerprint : ℕ) (lent : Launch) (es : List CacheEntry) 
 
 -- ---- in the store
 
-module _ {calls : List Call} {index units index' units' : List ℕ} (a : After calls index units) (fingerprint : ℕ) (lent : Launch) (r : Cached)
+module _ {calls : List Call} {index units index' units' : List ℕ} (a : After calls index units) (fingerprint : ℕ) (lent : Launch) (r : Result Cached Refusal)
     (s : Stores cache_places fingerprint lent r index units index' units') where
   -- the entries before
   abbrev es : List CacheEntry
@@ -245,7 +246,7 @@ module _ {calls : List Call} {index units index' units' : List ℕ} (a : After c
       adds_exactly cache_places room fingerprint lent es (storing cache_places room fingerprint lent es) (comes cache_places room fingerprint lent es)
 
   -- "Storing what a lookup would hit changes nothing and says so."
-  pub held_unchanged : (start size : ℕ) → LooksUp cache_places index units fingerprint lent (Cached.Hit start size)
+  pub held_unchanged : (start size : ℕ) → LooksUp cache_places index units fingerprint lent (Ok (Cached.Hit start size))
       → (cached_said r ≡ done (held start size)) × (index' ≡ index) × (units' ≡ units)
   unfolding looking storing
   held_unchanged start size l =
@@ -289,13 +290,13 @@ module _ {calls : List Call} {index units index' units' : List ℕ} (a : After c
   stored_own start size t = standing_own es' represented' fingerprint lent (told_sound start size t) (stands_there start size t)
 
   -- and a lookup hits it there afterwards
-  pub stored_found : (start size : ℕ) → told_of (cached_said r) ≡ there start size → (q : Cached) → LooksUp cache_places index' units' fingerprint lent q
+  pub stored_found : (start size : ℕ) → told_of (cached_said r) ≡ there start size → (q : Result Cached Refusal) → LooksUp cache_places index' units' fingerprint lent q
       → cached_said q ≡ done (hit start size)
   unfolding looking
   stored_found start size t q l = l.says es' represented' ∙ rw (told_sound start size t, stands_there start size t)
 
   -- "leaves every other entry's key and line as they were": what a lookup hit before, it hits afterwards, at the same place, and the line there is the same
-  module _ (fingerprint' : ℕ) (lent' : Launch) (start size : ℕ) (l : LooksUp cache_places index units fingerprint' lent' (Cached.Hit start size)) where
+  module _ (fingerprint' : ℕ) (lent' : Launch) (start size : ℕ) (l : LooksUp cache_places index units fingerprint' lent' (Ok (Cached.Hit start size))) where
     hit_before : (argument_fault lent'.text lent'.records ≡ faultless) × (standing fingerprint' (key_of lent') 0 es ≡ there start size)
     unfolding looking
     hit_before = hit_found (argument_fault lent'.text lent'.records) (standing fingerprint' (key_of lent') 0 es) (l.says es (represented a))
@@ -310,7 +311,7 @@ module _ {calls : List Call} {index units index' units' : List ℕ} (a : After c
         go (done (stored s n)) = stands_still fingerprint' (key_of lent') 0 es (new ∷ []) hit_before.1
         go (refused number place) = hit_before.1
 
-    pub hits_stay : (q : Cached) → LooksUp cache_places index' units' fingerprint' lent' q → cached_said q ≡ done (hit start size)
+    pub hits_stay : (q : Result Cached Refusal) → LooksUp cache_places index' units' fingerprint' lent' q → cached_said q ≡ done (hit start size)
     unfolding looking
     hits_stay q m = m.says es' represented' ∙ rw (hit_before.0, hit_after)
 

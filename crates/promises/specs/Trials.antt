@@ -1,11 +1,7 @@
 -- The contracts of the reader, of the line builders and of the block builder admit no worthless program: two small inputs of each show it. Assumes nothing.
-use Rattle.std.specs.Prelude.{ℕ, zero, suc, ◌≡◌, refl, false, List, [], ◌∷◌, ◌++◌, length, drop, replicate}
+use Rattle.std.specs.Prelude.{ℕ, zero, suc, ◌≡◌, refl, false, List, [], ◌∷◌, ◌++◌, length, drop, replicate, Ok}
 use Rattle.std.proofs.Common.{arith, sym, ap, ◌∙◌, take-append-drop}
 use Rattle.std.proofs.Math.Seq.{drop-nil}
-use Rattle.rules.specs.declared.Built.TheVariants as Built
-use Rattle.rules.specs.declared.Filled.TheVariants as Filled
-use Rattle.rules.specs.declared.Parsed.TheVariants as Parsed
-use Rattle.rules.specs.declared.Listed.TheVariants as Listed
 use Rattle.rules.specs.Unit.{units, nul}
 use Rattle.rules.specs.Choice.{equal}
 use Rattle.rules.specs.Outcome.{Outcome, done, refused, over, filled}
@@ -72,14 +68,14 @@ reader_tried =
           c.says z;
       first = record {
         lent = quoted;
-        answer = Parsed.Arguments 2 3;
+        answer = Ok (record { count = 2; units = 3 });
         after = (units "xab" ++ nul ∷ [], 0 ∷ 1 ∷ 1 ∷ 2 ∷ []);
         right = record { says = refl; leaves = refl; tabulates = refl };
         accepted = refl;
       };
       second = record {
         lent = unquoted;
-        answer = Parsed.Arguments 2 2;
+        answer = Ok (record { count = 2; units = 2 });
         after = (units "xc" ++ nul ∷ nul ∷ [], 0 ∷ 1 ∷ 1 ∷ 1 ∷ []);
         right = record { says = refl; leaves = refl; tabulates = refl };
         accepted = refl;
@@ -112,14 +108,14 @@ block_reader_tried =
           a.says z;
       first = record {
         lent = two_listed;
-        answer = Listed.Entries 2 8;
+        answer = Ok (record { count = 2; units = 8 });
         after = 0 ∷ 1 ∷ 2 ∷ 0 ∷ 3 ∷ 1 ∷ 5 ∷ 1 ∷ [];
         right = record { says = refl; tabulates = refl };
         accepted = refl;
       };
       second = record {
         lent = one_listed;
-        answer = Listed.Entries 1 4;
+        answer = Ok (record { count = 1; units = 4 });
         after = 0 ∷ 1 ∷ 2 ∷ 0 ∷ replicate 4 0;
         right = record { says = refl; tabulates = refl };
         accepted = refl;
@@ -182,8 +178,8 @@ line_tried =
     tried line_builder built_one
     (λ x. line_numbered x.force x.program x.records x.text (length x.out))
     (λ x result e. (line_whole x.force x.program x.records x.text (length x.out) result e).1)
-    (trial line_builder two_arguments (Built.Line 8) (units "\"x\" a \"\"" ++ replicate 29 nul) refl refl refl)
-    (trial line_builder no_arguments (Built.Line 3) (units "\"y\"" ++ replicate 34 nul) refl refl refl)
+    (trial line_builder two_arguments (Ok (record { units = 8 })) (units "\"x\" a \"\"" ++ replicate 29 nul) refl refl refl)
+    (trial line_builder no_arguments (Ok (record { units = 3 })) (units "\"y\"" ++ replicate 34 nul) refl refl refl)
     refl refl refl refl
 
 pub batch_tried : Tried (writing batch_builder)
@@ -192,8 +188,8 @@ batch_tried =
     tried batch_builder built_one
     (λ x. batch_numbered x.force x.program x.records x.text (length x.out))
     (λ x result e. (batch_whole x.force x.program x.records x.text (length x.out) result e).1)
-    (trial batch_builder two_arguments (Built.Line 37) (units "cmd.exe /e:ON /v:OFF /d /c \"\"x\" a \"\"\"") refl refl refl)
-    (trial batch_builder no_arguments (Built.Line 32) (units "cmd.exe /e:ON /v:OFF /d /c \"\"y\"\"" ++ replicate 5 nul) refl refl refl)
+    (trial batch_builder two_arguments (Ok (record { units = 37 })) (units "cmd.exe /e:ON /v:OFF /d /c \"\"x\" a \"\"\"") refl refl refl)
+    (trial batch_builder no_arguments (Ok (record { units = 32 })) (units "cmd.exe /e:ON /v:OFF /d /c \"\"y\"\"" ++ replicate 5 nul) refl refl refl)
     refl refl refl refl
 
 -- keys `A` and `B`, both values empty
@@ -213,6 +209,6 @@ block_tried =
     tried block_builder filled_one
     (λ x. block_numbered x.records x.text (length x.out))
     (λ x result e. (block_whole x.records x.text (length x.out) result e).1)
-    (trial block_builder two_entries (Filled.Units 7) (units "A=" ++ nul ∷ units "B=" ++ nul ∷ nul ∷ []) refl refl refl)
-    (trial block_builder one_entry_lem (Filled.Units 4) (units "B=" ++ replicate 5 nul) refl refl refl)
+    (trial block_builder two_entries (Ok 7) (units "A=" ++ nul ∷ units "B=" ++ nul ∷ nul ∷ []) refl refl refl)
+    (trial block_builder one_entry_lem (Ok 4) (units "B=" ++ replicate 5 nul) refl refl refl)
     refl refl refl refl

@@ -1,6 +1,7 @@
 -- Each entry point's contract allows one answer and one content of lent memory. Assumes nothing.
-use Rattle.std.specs.Prelude.{ℕ, ◌≡◌, Bool, List, length}
+use Rattle.std.specs.Prelude.{ℕ, ◌≡◌, Bool, List, length, Result}
 use Rattle.std.proofs.Common.{sym, ◌∙◌}
+use Rattle.rules.specs.declared.Refusal.{Refusal}
 use Rattle.rules.specs.declared.Cached.{Cached}
 use Rattle.rules.specs.Building.{command_line, batch_command_line}
 use Rattle.rules.specs.Block.{environment_block}
@@ -44,11 +45,11 @@ emptied_once e f = e.leaves ∙ sym f.leaves
 
 module _ {calls : List Call} {index units : List ℕ} (a : After calls index units) (fingerprint : ℕ) (lent : Launch) where
   -- the cache's lookup: one answer
-  pub lookup_once : (r r' : Cached) → LooksUp cache_places index units fingerprint lent r → LooksUp cache_places index units fingerprint lent r' → r ≡ r'
+  pub lookup_once : (r r' : Result Cached Refusal) → LooksUp cache_places index units fingerprint lent r → LooksUp cache_places index units fingerprint lent r' → r ≡ r'
   lookup_once r r' l m = cached_one r r' (l.says _ (represented a) ∙ sym (m.says _ (represented a)))
 
   -- the cache's store: one answer, and one content of index and units
-  pub store_once : (r r' : Cached) {index' units' index'' units'' : List ℕ} → Stores cache_places fingerprint lent r index units index' units'
+  pub store_once : (r r' : Result Cached Refusal) {index' units' index'' units'' : List ℕ} → Stores cache_places fingerprint lent r index units index' units'
       → Stores cache_places fingerprint lent r' index units index'' units'' → (r ≡ r') × (index' ≡ index'') × (units' ≡ units'')
   store_once r r' s t =
       let p = s.leaves _ (represented a) in

@@ -1,4 +1,5 @@
 -- The outcome of reading: which answer is given, and what the lent memory holds afterwards. Assumes nothing.
+use Rattle.std.specs.Prelude.{Result, Ok}
 use mathlib.Core.Path.{◌≡◌, refl, ap, ◌∙◌}
 use mathlib.Core.Bool.{Bool, true, false}
 use mathlib.Core.List.{List, [], ◌∷◌, ◌++◌, append-nil}
@@ -8,7 +9,8 @@ use lib.ListN.{length, take}
 use lib.Seq.{sets, length-take-le}
 use lib.Dec.{eqb, eqb-suc-zero, leb}
 use borrow.Author.Tests.{lt-ltb, le-ltb, leb-true}
-use Rattle.rules.specs.declared.Parsed.{Parsed}
+use Rattle.rules.specs.declared.Refusal.{Refusal}
+use Rattle.rules.specs.declared.Arguments.{Arguments}
 use Rattle.rules.specs.Choice.{pick, flip, is_empty}
 use Rattle.rules.specs.Unit.{is_nul}
 use Rattle.rules.specs.Outcome.{Outcome, done, refused}
@@ -119,14 +121,14 @@ module _ (args : List (List ℕ)) (room numbers : ℕ) where
   all_housed h = rw (le-ltb (places_of numbers) (length args) h.places, le-ltb room (length (joined args)) h.text)
 
 -- a refusal that changes nothing
-pub refuses : {o : Outcome (List (List ℕ))} {r : Parsed} {number : ℕ} {text text' spans spans' : List ℕ} → o ≡ refused number 0 → parsed_said r ≡ refusal number 0
+pub refuses : {o : Outcome (List (List ℕ))} {r : Result Arguments Refusal} {number : ℕ} {text text' spans spans' : List ℕ} → o ≡ refused number 0 → parsed_said r ≡ refusal number 0
     → text' ≡ text → spans' ≡ spans → Read o r text text' spans spans'
 refuses e a t s = rw e (record { says = a; leaves = t; tabulates = s })
 
 -- the arguments, laid out where there is room, over a text and a table that are as they were
 pub gives : {o : Outcome (List (List ℕ))} {args : List (List ℕ)} {text text₁ text' spans spans₁ spans' : List ℕ} {count units : ℕ} → o ≡ done args
     → Laid args text₁ text' spans₁ spans' count units → text₁ ≡ text → spans₁ ≡ spans → length (joined args) ≤ length text → length args ≤ length spans / 2
-    → Read o (Parsed.Arguments count units) text text' spans spans'
+    → Read o (Ok (record { count = count; units = units })) text text' spans spans'
 gives {args = args} {text = text} {spans = spans} e r t s h g =
     let l : length (spans_of args) ≡ 2 * length args = spans_length 0 args in
     rw e

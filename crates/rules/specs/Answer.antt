@@ -1,10 +1,9 @@
 -- What an answer says in the document's numbers, and what an entry point promises of its answer and of the lent memory. Assumes nothing.
-use Rattle.std.specs.Prelude.{ℕ, ◌≡◌, List, length}
+use Rattle.std.specs.Prelude.{ℕ, ◌≡◌, List, length, Result, Ok, Err}
 use Rattle.rules.specs.declared.Refusal.{Refusal}
-use Rattle.rules.specs.declared.Built.{Built}
-use Rattle.rules.specs.declared.Filled.{Filled}
-use Rattle.rules.specs.declared.Parsed.{Parsed}
-use Rattle.rules.specs.declared.Listed.{Listed}
+use Rattle.rules.specs.declared.Line.{Line}
+use Rattle.rules.specs.declared.Arguments.{Arguments}
+use Rattle.rules.specs.declared.Entries.{Entries}
 use Rattle.rules.specs.Outcome.{Outcome, done, refused, filled}
 use Rattle.rules.specs.Record.{Entry}
 use Rattle.rules.specs.Reading.{joined, spans_of}
@@ -75,24 +74,24 @@ abbrev pub refusal_said : Refusal → Said
 refusal_said r = refusal (refusal_number r) (refusal_place r)
 
 -- the answer of a builder of lines
-abbrev pub built_said : Built → Said
-built_said (Built.Line units) = wrote units
-built_said (Built.Refused r) = refusal_said r
+abbrev pub built_said : Result Line Refusal → Said
+built_said (Ok line) = wrote line.units
+built_said (Err r) = refusal_said r
 
 -- the answer of an entry point that merely writes units
-abbrev pub filled_said : Filled → Said
-filled_said (Filled.Units units) = wrote units
-filled_said (Filled.Refused r) = refusal_said r
+abbrev pub filled_said : Result ℕ Refusal → Said
+filled_said (Ok units) = wrote units
+filled_said (Err r) = refusal_said r
 
 -- the answer of the reader
-abbrev pub parsed_said : Parsed → Said
-parsed_said (Parsed.Arguments count units) = gave count units
-parsed_said (Parsed.Refused r) = refusal_said r
+abbrev pub parsed_said : Result Arguments Refusal → Said
+parsed_said (Ok arguments) = gave arguments.count arguments.units
+parsed_said (Err r) = refusal_said r
 
 -- the answer of the block reader
-abbrev pub listed_said : Listed → Said
-listed_said (Listed.Entries count units) = gave count units
-listed_said (Listed.Refused r) = refusal_said r
+abbrev pub listed_said : Result Entries Refusal → Said
+listed_said (Ok entries) = gave entries.count entries.units
+listed_said (Err r) = refusal_said r
 
 -- ---- contracts
 
@@ -112,7 +111,7 @@ outcome_spans (done args) = done (spans_of args)
 outcome_spans (refused number place) = refused number place
 
 -- the answer says what the outcome says, and output and span table hold afterwards what the outcome leaves in them
-pub record Read (o : Outcome (List (List ℕ))) (r : Parsed) (text text' spans spans' : List ℕ) : Type 0 where
+pub record Read (o : Outcome (List (List ℕ))) (r : Result Arguments Refusal) (text text' spans spans' : List ℕ) : Type 0 where
   pub says : parsed_said r ≡ arguments_said o
   pub leaves : text' ≡ filled text (outcome_texts o)
   pub tabulates : spans' ≡ filled spans (outcome_spans o)
@@ -123,6 +122,6 @@ outcome_entry_spans (done entries) = done (entry_spans entries)
 outcome_entry_spans (refused number place) = refused number place
 
 -- the answer says what the outcome says, and the span table holds afterwards what the outcome leaves in it
-pub record Listing (o : Outcome (List Entry)) (r : Listed) (spans spans' : List ℕ) : Type 0 where
+pub record Listing (o : Outcome (List Entry)) (r : Result Entries Refusal) (spans spans' : List ℕ) : Type 0 where
   pub says : listed_said r ≡ entries_said o
   pub tabulates : spans' ≡ filled spans (outcome_entry_spans o)

@@ -1,5 +1,6 @@
 -- How the entries of the launch line cache lie in lent memory, and what its calls promise. Assumes nothing.
-use Rattle.std.specs.Prelude.{ℕ, ◌+◌, ◌≤◌, ◌≡◌, Bool, true, false, List, [], ◌∷◌, ◌++◌, length}
+use Rattle.std.specs.Prelude.{ℕ, ◌+◌, ◌≤◌, ◌≡◌, Bool, true, false, List, [], ◌∷◌, ◌++◌, length, Result, Ok, Err}
+use Rattle.rules.specs.declared.Refusal.{Refusal}
 use Rattle.rules.specs.declared.Cached.{Cached}
 use Rattle.rules.specs.Choice.{pick}
 use Rattle.rules.specs.Outcome.{Outcome, done, refused, over}
@@ -75,12 +76,12 @@ pub record Represents (places : ℕ) (index units : List ℕ) (es : List CacheEn
 -- ---- what the calls promise
 
 -- what an answer says
-abbrev pub cached_said : Cached → Outcome Served
-cached_said Cached.Missed = done missed
-cached_said (Cached.Hit start units) = done (hit start units)
-cached_said (Cached.Held start units) = done (held start units)
-cached_said (Cached.Stored start units) = done (stored start units)
-cached_said (Cached.Refused r) = refused (refusal_number r) (refusal_place r)
+abbrev pub cached_said : Result Cached Refusal → Outcome Served
+cached_said (Ok Cached.Missed) = done missed
+cached_said (Ok (Cached.Hit start units)) = done (hit start units)
+cached_said (Ok (Cached.Held start units)) = done (held start units)
+cached_said (Ok (Cached.Stored start units)) = done (stored start units)
+cached_said (Err r) = refused (refusal_number r) (refusal_place r)
 
 -- an entry was added
 abbrev pub adds : Outcome Served → Bool
@@ -91,19 +92,19 @@ adds (done (stored start units)) = true
 adds (refused number place) = false
 
 -- the line that an answer hands back lies within so many units
-abbrev pub LiesIn : ℕ → Cached → Type 0
-LiesIn room Cached.Missed = Unit
-LiesIn room (Cached.Hit start units) = start + units ≤ room
-LiesIn room (Cached.Held start units) = start + units ≤ room
-LiesIn room (Cached.Stored start units) = start + units ≤ room
-LiesIn room (Cached.Refused r) = Unit
+abbrev pub LiesIn : ℕ → Result Cached Refusal → Type 0
+LiesIn room (Ok Cached.Missed) = Unit
+LiesIn room (Ok (Cached.Hit start units)) = start + units ≤ room
+LiesIn room (Ok (Cached.Held start units)) = start + units ≤ room
+LiesIn room (Ok (Cached.Stored start units)) = start + units ≤ room
+LiesIn room (Err r) = Unit
 
 -- making and clearing: the index of no entries lies over what the index held
 pub record Empties (index index' : List ℕ) : Type 0 where
   pub leaves : index' ≡ over index (index_of [])
 
 -- a lookup says what looking up in the entries comes to; whatever the memory holds, a line that it hands back lies within the units
-pub record LooksUp (places : ℕ) (index units : List ℕ) (fingerprint : ℕ) (lent : Launch) (r : Cached) : Type 0 where
+pub record LooksUp (places : ℕ) (index units : List ℕ) (fingerprint : ℕ) (lent : Launch) (r : Result Cached Refusal) : Type 0 where
   pub says : (es : List CacheEntry) → Represents places index units es → cached_said r ≡ looking fingerprint lent es
   pub lies : LiesIn (length units) r
 
@@ -114,7 +115,7 @@ pub record StoredOver (index units : List ℕ) (es : List CacheEntry) (index' un
 
 -- a storing says what storing into the entries comes to, and leaves what they are then; whatever the memory holds, it changes nothing where it adds no entry,
 -- and a line that it hands back lies within the units
-pub record Stores (places : ℕ) (fingerprint : ℕ) (lent : Launch) (r : Cached) (index units index' units' : List ℕ) : Type 0 where
+pub record Stores (places : ℕ) (fingerprint : ℕ) (lent : Launch) (r : Result Cached Refusal) (index units index' units' : List ℕ) : Type 0 where
   pub says : (es : List CacheEntry) → Represents places index units es → cached_said r ≡ storing places (length units) fingerprint lent es
   pub leaves : (es : List CacheEntry) → Represents places index units es
       → StoredOver index units (stored_in (storing places (length units) fingerprint lent es) (cache_entry fingerprint (key_of lent)) es) index' units'

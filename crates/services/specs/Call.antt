@@ -1,5 +1,6 @@
 -- What a call to a store asks for, and what it is answered. Assumes nothing.
-use Rattle.std.specs.Prelude.{ℕ, ◌+◌, ◌*◌, List, eqb, get_or, drop}
+use Rattle.std.specs.Prelude.{ℕ, ◌+◌, ◌*◌, List, eqb, get_or, drop, Result}
+use Rattle.rules.specs.declared.Refusal.{Refusal}
 use Rattle.rules.specs.declared.Cached.{Cached}
 use Rattle.rules.specs.Record.{part}
 use Rattle.rules.specs.Key.{Launch, launch}
@@ -16,7 +17,7 @@ abbrev pub launch_in : List ℕ → List ℕ → Launch
 launch_in text numbers = launch (eqb (get_or numbers 2 0) 1) (part text (get_or numbers 3 0) (get_or numbers 4 0)) (drop 5 numbers) text
 
 -- what is answered is shown of an answer of the cache of which this is promised
-pub record Shows (promised : Cached → Type 0) (r : Answer) (spans spans' : List ℕ) : Type 0 where
-  pub cached : Cached
+pub record Shows (promised : Result Cached Refusal → Type 0) (r : Answer) (spans spans' : List ℕ) : Type 0 where
+  pub cached : Result Cached Refusal
   pub kept : promised cached
   pub serves : Serves (cached_said cached) r spans spans'

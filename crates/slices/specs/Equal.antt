@@ -1,8 +1,9 @@
 -- The entries over a slice of records and the flat entries on the records' numbers: one answer, one content of lent memory. Assumes nothing.
-use Rattle.std.specs.Prelude.{ℕ, ◌≡◌, refl, Bool, List, [], ◌∷◌, map, length}
+use Rattle.std.specs.Prelude.{ℕ, ◌≡◌, refl, Bool, List, [], ◌∷◌, map, length, Result}
 use Rattle.std.proofs.Common.{ap}
+use Rattle.rules.specs.declared.Refusal.{Refusal}
 use Rattle.rules.specs.declared.Arg.{Arg}
-use Rattle.rules.specs.declared.Built.{Built}
+use Rattle.rules.specs.declared.Line.{Line}
 use Rattle.rules.specs.Answer.{built_said, Answered}
 use Rattle.rules.specs.Building.{either_line}
 use Rattle.rules.specs.Record.{whole, argument_records, flat_of}
@@ -28,7 +29,7 @@ flat_only (k ∷ s ∷ l ∷ more) (a ∷ args) e =
     cc
 
 -- for every list of records and every flat list that holds them: what the contract of an entry over a slice allows and what that of the flat entry allows are one answer and one content of lent memory
-pub same_answers : (batch force : Bool) (lent : List ℕ) (args : List Arg) (numbers text before : List ℕ) → argument_records numbers ≡ map whole args → {r r' : Built} {after after' : List ℕ}
+pub same_answers : (batch force : Bool) (lent : List ℕ) (args : List Arg) (numbers text before : List ℕ) → argument_records numbers ≡ map whole args → {r r' : Result Line Refusal} {after after' : List ℕ}
     → Answered (either_line batch force lent (flat_of args) text (length before)) (built_said r) before after
     → Answered (either_line batch force lent numbers text (length before)) (built_said r') before after'
     → (r ≡ r') × (after ≡ after')

@@ -1,4 +1,5 @@
 -- A text of two parts written whole, or refused for want of room. Assumes nothing.
+use Rattle.std.specs.Prelude.{Ok, Err}
 use Prim.Native.Nat.{ℕ, ◌+◌, ◌-◌, ◌≤◌, ◌<◌, ◌^◌}
 use native.Mathlib.Nat.{zero-add}
 use native.Mathlib.Omega.{arith}
@@ -8,7 +9,6 @@ use lib.ListN.{length, take, drop, length-append}
 use lib.Seq.{sets}
 use borrow.Author.Tests.{lt-ltb, le-ltb}
 use Rattle.laws.specs.Store.{sets_append, sets_front, part_is}
-use Rattle.rules.specs.declared.Filled.TheVariants as Filled
 use Rattle.rules.specs.declared.Refusal.TheVariants as Refusal
 use Rattle.rules.specs.Answer.{Answered, Said, filled_said}
 use Rattle.rules.specs.Unit.{units}
@@ -18,14 +18,14 @@ use Rattle.status.proofs.Laying.{enough}
 
 module _ (front digits before : List ℕ) where
   -- no room
-  pub no_room : length before < length front + length digits → Answered (fitted (front ++ digits) (length before)) (filled_said (Filled.Refused Refusal.Room)) before before
+  pub no_room : length before < length front + length digits → Answered (fitted (front ++ digits) (length before)) (filled_said (Err Refusal.Room)) before before
   no_room h =
       let l : length before < length (front ++ digits) = rw length-append h in
       rw (lt-ltb (length before) (length (front ++ digits)) l) (record { says = refl; leaves = refl })
 
   -- room enough
   pub room : (middle after : List ℕ) → length front + length digits ≤ length before → middle ≡ sets before 0 front → after ≡ sets middle (length front) digits
-      → Answered (fitted (front ++ digits) (length before)) (filled_said (Filled.Units (length front + length digits))) before after
+      → Answered (fitted (front ++ digits) (length before)) (filled_said (Ok (length front + length digits))) before after
   room middle after h p q =
       let l : length (front ++ digits) ≤ length before = rw length-append h in
       let s : after ≡ sets before 0 (front ++ digits) = rw (q, p, sets_append before 0 front digits, zero-add) in

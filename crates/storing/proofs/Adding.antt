@@ -1,4 +1,5 @@
 -- An entry is refused, or added. Assumes nothing.
+use Rattle.std.specs.Prelude.{Ok, Err}
 use Prim.Native.Nat.{ℕ, ◌+◌, ◌-◌, ◌*◌, ◌≤◌, ◌<◌, min}
 use native.Mathlib.Omega.{arith}
 use mathlib.Core.Path.{◌≡◌, refl, sym, ap, ◌∙◌}
@@ -60,7 +61,7 @@ key_then_line units back own whole used start s o =
 
 -- a refusal that is not 4 passes through
 passing : (full : Bool) (q : Refusal) {number place : ℕ} → ¬ (number ≡ 4) → refusal_said q ≡ refusal number place
-    → cached_said (Cached.Refused (refusal_for full q)) ≡ refused number place
+    → cached_said (Err (refusal_for full q)) ≡ refused number place
 passing full q {number} {place} h e =
     let m : refusal_number q ≡ number = ap (λ (s : Said). s.number) e in
     let p : refusal_place q ≡ place = ap (λ (s : Said). s.place) e in
@@ -68,13 +69,13 @@ passing full q {number} {place} h e =
     rw (n, m, p)
 
 -- 4 is 3 where all entries are used
-telling : (full : Bool) (q : Refusal) → refusal_said q ≡ refusal 4 0 → cached_said (Cached.Refused (refusal_for full q)) ≡ refused (pick full 3 4) 0
+telling : (full : Bool) (q : Refusal) → refusal_said q ≡ refusal 4 0 → cached_said (Err (refusal_for full q)) ≡ refused (pick full 3 4) 0
 telling full q e =
     let m : refusal_number q ≡ 4 = ap (λ (s : Said). s.number) e in
     let n : eqb (refusal_number q) 4 ≡ true = rw m in
     rw n (go full)
   where
-    go : (full : Bool) → cached_said (Cached.Refused (pick full Refusal.Places Refusal.Room)) ≡ refused (pick full 3 4) 0
+    go : (full : Bool) → cached_said (Err (pick full Refusal.Places Refusal.Room)) ≡ refused (pick full 3 4) 0
     go true = refl
     go false = refl
 
@@ -139,7 +140,7 @@ module _ {places : ℕ} (fingerprint : ℕ) (lent : Launch) {index units : List 
           rw (t, lt-ltb (length units - all_use es) (entry_uses entry) w)
 
   refused_says : (q : Refusal) → Unbuilt lent (length units - start) q → (es : List CacheEntry) → Represents places index units es
-      → cached_said (Cached.Refused (refusal_for full q)) ≡ adding_new places (length units) fingerprint lent es
+      → cached_said (Err (refusal_for full q)) ≡ adding_new places (length units) fingerprint lent es
   unfolding adding_new
   refused_says q (passes number place e n said) es r = passing full q n said ∙ rw e
   refused_says q (narrow whole e l said) es r = telling full q said ∙ narrowed es r whole (lined lent whole e).made l ∙ rw e
@@ -150,7 +151,7 @@ module _ {places : ℕ} (fingerprint : ℕ) (lent : Launch) {index units : List 
 
   pub add_refused : (q : Refusal) {rest : List ℕ}
       → Answered (command_line lent.force lent.program lent.records lent.text (length (rest_of start units))) (refusal_said q) (rest_of start units) rest
-      → Adds places fingerprint lent (Cached.Refused (refusal_for full q)) index units index (back_of start units rest)
+      → Adds places fingerprint lent (Err (refusal_for full q)) index units index (back_of start units rest)
   add_refused q {rest} a =
       let (u, same) = unbuilt lent (rest_of start units) rest {q = q} a in
       let says = refused_says q (rw (rest_length start units) at u) in
@@ -216,7 +217,7 @@ module _ {places : ℕ} (fingerprint : ℕ) (lent : Launch) {index units : List 
     -- what was put
     module _ {index' units' : List ℕ} (w : EntryPut (get_or index 0 0) used (fingerprint ∷ flag_word lent.force ∷ length lent.program ∷ used ∷ size ∷ n ∷ []) (used + (size + n)) index index')
         (t : units' ≡ sets (back_of start units rest) used (lent.program ++ laid_arguments (arguments_of lent.text lent.records))) where
-      says : (es : List CacheEntry) → Represents places index units es → cached_said (Cached.Stored start n) ≡ adding_new places (length units) fingerprint lent es
+      says : (es : List CacheEntry) → Represents places index units es → cached_said (Ok (Cached.Stored start n)) ≡ adding_new places (length units) fingerprint lent es
       unfolding adding_new adding
       says es r =
           let l : leb places (length es) ≡ false = rw (← count_is r) (sym b.fulls ∙ not_full full refl) in
@@ -237,7 +238,7 @@ module _ {places : ℕ} (fingerprint : ℕ) (lent : Launch) {index units : List 
           let u : used + (size + n) ≡ all_use es + entry_uses entry = omega (arith, used_are es r, size_whole, line_length, uses_are) in
           w.puts ∙ rw (u, count_is r, used_are es r, size_whole, line_length)
 
-      pub add_added : 2 + 6 * places ≤ length index → Adds places fingerprint lent (Cached.Stored start n) index units index' units'
+      pub add_added : 2 + 6 * places ≤ length index → Adds places fingerprint lent (Ok (Cached.Stored start n)) index units index' units'
       add_added h =
           record {
             says = says;

@@ -1,5 +1,5 @@
 -- One entry more: its parts, and what adding it comes to. Assumes nothing.
-use Rattle.std.specs.Prelude.{ℕ, ◌+◌, ◌*◌, ◌≡◌, Bool, false, List, [], ◌∷◌, eqb, length}
+use Rattle.std.specs.Prelude.{ℕ, ◌+◌, ◌*◌, ◌≡◌, Bool, false, List, [], ◌∷◌, eqb, length, Result}
 use Rattle.std.proofs.lemmas.List.Edits.{sets}
 use Rattle.rules.specs.declared.Refusal.{Refusal}
 use Rattle.rules.specs.declared.Refusal.TheVariants.{Places, Room}
@@ -26,7 +26,7 @@ unfolding command_line line adding
 adding_new places room fingerprint lent es = past_builder (prepared lent) (adding places room (cache_entry fingerprint (key_of lent)) es)
 
 -- it says so, and leaves the entries afterwards; whatever the memory holds, it changes nothing where it adds none, and its line lies within the units
-pub record Adds (places : ℕ) (fingerprint : ℕ) (lent : Launch) (r : Cached) (index units index' units' : List ℕ) : Type 0 where
+pub record Adds (places : ℕ) (fingerprint : ℕ) (lent : Launch) (r : Result Cached Refusal) (index units index' units' : List ℕ) : Type 0 where
   pub says : (es : List CacheEntry) → Represents places index units es → cached_said r ≡ adding_new places (length units) fingerprint lent es
   pub leaves : (es : List CacheEntry) → Represents places index units es
       → StoredOver index units (stored_in (adding_new places (length units) fingerprint lent es) (cache_entry fingerprint (key_of lent)) es) index' units'
