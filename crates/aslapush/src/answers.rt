@@ -5,7 +5,7 @@ ghost use Rattle.rules.specs.Answer.{gave, refusal_number, refusal_place, refusa
 ghost use Rattle.rules.specs.Store.{cached_said};
 ghost use Rattle.aslapush.specs.Export.{Told, CacheTold};
 
-use rules::{Built, Cached, Filled, Listed, Parsed, Refusal};
+use rules::{Arguments, Cached, Entries, Line, Refusal};
 use units::refusals::{number_of, place_of};
 
 // The states of a store's answer, by the header's numbers.
@@ -41,42 +41,42 @@ fn tell_counts(count: usize, units: usize, answer: &mut [u64; 4]) -> u32
 }
 
 // What the answer of a builder of lines says.
-pub fn tell_built(built: Built, answer: &mut [u64; 4]) -> u32
+pub fn tell_built(built: Result<Line, Refusal>, answer: &mut [u64; 4]) -> u32
     ensures { Told (built_said built) result answer.new }
 {
     match built {
-        Built::Line { units } => tell_counts(0, units, answer),
-        Built::Refused(refusal) => tell_refusal(refusal, answer),
+        Ok(Line { units }) => tell_counts(0, units, answer),
+        Err(refusal) => tell_refusal(refusal, answer),
     }
 }
 
 // What the answer of an entry point that merely writes units says.
-pub fn tell_filled(filled: Filled, answer: &mut [u64; 4]) -> u32
+pub fn tell_filled(filled: Result<usize, Refusal>, answer: &mut [u64; 4]) -> u32
     ensures { Told (filled_said filled) result answer.new }
 {
     match filled {
-        Filled::Units(units) => tell_counts(0, units, answer),
-        Filled::Refused(refusal) => tell_refusal(refusal, answer),
+        Ok(units) => tell_counts(0, units, answer),
+        Err(refusal) => tell_refusal(refusal, answer),
     }
 }
 
 // What the reader's answer says.
-pub fn tell_parsed(parsed: Parsed, answer: &mut [u64; 4]) -> u32
+pub fn tell_parsed(parsed: Result<Arguments, Refusal>, answer: &mut [u64; 4]) -> u32
     ensures { Told (parsed_said parsed) result answer.new }
 {
     match parsed {
-        Parsed::Arguments { count, units } => tell_counts(count, units, answer),
-        Parsed::Refused(refusal) => tell_refusal(refusal, answer),
+        Ok(Arguments { count, units }) => tell_counts(count, units, answer),
+        Err(refusal) => tell_refusal(refusal, answer),
     }
 }
 
 // What the block reader's answer says.
-pub fn tell_listed(listed: Listed, answer: &mut [u64; 4]) -> u32
+pub fn tell_listed(listed: Result<Entries, Refusal>, answer: &mut [u64; 4]) -> u32
     ensures { Told (listed_said listed) result answer.new }
 {
     match listed {
-        Listed::Entries { count, units } => tell_counts(count, units, answer),
-        Listed::Refused(refusal) => tell_refusal(refusal, answer),
+        Ok(Entries { count, units }) => tell_counts(count, units, answer),
+        Err(refusal) => tell_refusal(refusal, answer),
     }
 }
 
@@ -97,14 +97,14 @@ fn tell_line(state: u64, start: usize, units: usize, answer: &mut [u64; 5]) -> u
 }
 
 // What the answer of a store says.
-pub fn tell_cached(cached: Cached, answer: &mut [u64; 5]) -> u32
+pub fn tell_cached(cached: Result<Cached, Refusal>, answer: &mut [u64; 5]) -> u32
     ensures { CacheTold (cached_said cached) result answer.new }
 {
     match cached {
-        Cached::Missed => tell_line(MISSED, 0, 0, answer),
-        Cached::Hit { start, units } => tell_line(HIT, start, units, answer),
-        Cached::Held { start, units } => tell_line(HELD, start, units, answer),
-        Cached::Stored { start, units } => tell_line(STORED, start, units, answer),
-        Cached::Refused(refusal) => tell_unserved(refusal, answer),
+        Ok(Cached::Missed) => tell_line(MISSED, 0, 0, answer),
+        Ok(Cached::Hit { start, units }) => tell_line(HIT, start, units, answer),
+        Ok(Cached::Held { start, units }) => tell_line(HELD, start, units, answer),
+        Ok(Cached::Stored { start, units }) => tell_line(STORED, start, units, answer),
+        Err(refusal) => tell_unserved(refusal, answer),
     }
 }

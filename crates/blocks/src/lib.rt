@@ -5,7 +5,7 @@ ghost use Rattle.std.specs.Prelude.{length};
 ghost use Rattle.rules.specs.Answer.{Answered, filled_said};
 ghost use Rattle.rules.specs.Block.{environment_block};
 
-use rules::{Filled, Refusal};
+use rules::Refusal;
 
 mod entry_records;
 mod judging;
@@ -15,24 +15,24 @@ mod writing;
 pub const BLOCK_LIMIT: usize = 65535;
 
 // Writes the environment block (Rust: `make_envp`). A refusal is decided before anything is stored.
-pub fn make_envp(records: &[u32], text: &[u16], out: &mut [u16]) -> Filled
+pub fn make_envp(records: &[u32], text: &[u16], out: &mut [u16]) -> Result<usize, Refusal>
     ensures { Answered (environment_block records.now text.now (length out.old)) (filled_said result) out.old out.new }
 {
     let outside = judging::first_outside(records, text);
     if outside != 0 {
-        return Filled::Refused(Refusal::Record(outside));
+        return Err(Refusal::Record(outside));
     }
     let with_nul = judging::first_with_nul(records, text);
     if with_nul != 0 {
-        return Filled::Refused(Refusal::Nul(with_nul));
+        return Err(Refusal::Nul(with_nul));
     }
     let units = writing::block_len(records, text);
     if BLOCK_LIMIT < units {
-        return Filled::Refused(Refusal::Length);
+        return Err(Refusal::Length);
     }
     if out.len() < units {
-        return Filled::Refused(Refusal::Room);
+        return Err(Refusal::Room);
     }
     writing::put_block(out, records, text);
-    Filled::Units(units)
+    Ok(units)
 }

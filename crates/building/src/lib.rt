@@ -5,7 +5,7 @@ ghost use Rattle.std.specs.Prelude.{length};
 ghost use Rattle.rules.specs.Answer.{Answered, built_said};
 ghost use Rattle.rules.specs.Building.{command_line, batch_command_line};
 
-use rules::Built;
+use rules::{Line, Refusal};
 
 pub mod lines;
 mod stages;
@@ -19,7 +19,7 @@ pub fn make_command_line(
     text: &[u16],
     force_quotes: bool,
     out: &mut [u16],
-) -> Built
+) -> Result<Line, Refusal>
     ensures { Answered (command_line force_quotes program.now records.now text.now (length out.old)) (built_said result) out.old out.new }
 {
     lines::build(false, program, records, text, force_quotes, out)
@@ -32,7 +32,7 @@ pub fn make_bat_command_line(
     text: &[u16],
     force_quotes: bool,
     out: &mut [u16],
-) -> Built
+) -> Result<Line, Refusal>
     ensures { Answered (batch_command_line force_quotes script.now records.now text.now (length out.old)) (built_said result) out.old out.new }
 {
     lines::build(true, script, records, text, force_quotes, out)

@@ -4,7 +4,7 @@ ghost use Rattle.rules.specs.Answer.{Answered, built_said};
 ghost use Rattle.rules.specs.Building.{either_line};
 
 use crate::{turns, works};
-use rules::Built;
+use rules::{Line, Refusal};
 use units::classes;
 
 // Builds a line.
@@ -15,7 +15,7 @@ pub fn build(
     text: &[u16],
     force_quotes: bool,
     out: &mut [u16],
-) -> Built
+) -> Result<Line, Refusal>
     ensures { Answered (either_line batch force_quotes lent.now records.now text.now (length out.old)) (built_said result) out.old out.new }
 {
     let classes = classes::classes();

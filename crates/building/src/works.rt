@@ -5,7 +5,7 @@ ghost use Rattle.building.specs.Works.{begun, begun_at, entered, stopped, finish
 use adding::judging::Progress;
 use adding::styles::Style;
 use records::Verdict;
-use rules::{Built, Refusal};
+use rules::{Line, Refusal};
 use units::refusals;
 
 // What a pass does with each record: judge the record; judge the units that it names, and count the most that they can take; count its form; write it.
@@ -141,11 +141,11 @@ pub(crate) fn go_on(work: Work, progress: Progress) -> Work
 }
 
 // The answer, once the work does not go on.
-pub fn answer_of(work: Work) -> Built
+pub fn answer_of(work: Work) -> Result<Line, Refusal>
     ensures { result ≡ answer_of work }
 {
     if work.number == 0 {
-        return Built::Line { units: work.units };
+        return Ok(Line { units: work.units });
     }
-    Built::Refused(refusals::refusal_of(work.number, work.place))
+    Err(refusals::refusal_of(work.number, work.place))
 }

@@ -44,12 +44,12 @@ pub fn clear(index: &mut [u64; WORDS])
 }
 
 // What a lookup answers to what was found.
-fn looked(found: Found) -> Cached
+fn looked(found: Found) -> Result<Cached, Refusal>
     ensures { result ≡ hit_of found }
 {
     match found {
-        Found::There { start, units } => Cached::Hit { start, units },
-        Found::Nowhere => Cached::Missed,
+        Found::There { start, units } => Ok(Cached::Hit { start, units }),
+        Found::Nowhere => Ok(Cached::Missed),
     }
 }
 
@@ -62,11 +62,11 @@ pub fn lookup(
     records: &[u32],
     text: &[u16],
     force_quotes: bool,
-) -> Cached
+) -> Result<Cached, Refusal>
     ensures { LooksUp cache_places index.now units.now fingerprint (launch force_quotes program.now records.now text.now) result }
 {
     match first_fault(text, records) {
-        Verdict::Wrong(place) => Cached::Refused(Refusal::Record(place)),
+        Verdict::Wrong(place) => Err(Refusal::Record(place)),
         Verdict::Sound => looked(find(
             PLACES,
             index,
@@ -96,11 +96,11 @@ pub fn store(
     records: &[u32],
     text: &[u16],
     force_quotes: bool,
-) -> Cached
+) -> Result<Cached, Refusal>
     ensures { Stores cache_places fingerprint (launch force_quotes program.now records.now text.now) result index.old units.old index.new units.new }
 {
     if let Verdict::Wrong(place) = first_fault(text, records) {
-        return Cached::Refused(Refusal::Record(place));
+        return Err(Refusal::Record(place));
     }
     let found = find(
         PLACES,
@@ -113,7 +113,7 @@ pub fn store(
         force_quotes,
     );
     match found {
-        Found::There { start, units } => Cached::Held { start, units },
+        Found::There { start, units } => Ok(Cached::Held { start, units }),
         Found::Nowhere => add(
             PLACES,
             index,

@@ -9,7 +9,6 @@ use gathering::{gather, take_word};
 use names::has_bat_extension;
 use results::back::say_read;
 use results::written::{say_code, say_suffix, say_written};
-use rules::Filled;
 use std::io::Result;
 use std::rt::Env;
 use terminal::numbers::{Number, number_of, signed_of};
@@ -37,11 +36,11 @@ pub fn read(rt: &(impl Env + Print)) -> Result<()> {
 fn env_block(rt: &impl Print, text: &[u16], records: &[u32]) -> Result<()> {
     let mut out = room::out();
     match make_envp(records, text, &mut out) {
-        Filled::Units(units) => {
+        Ok(units) => {
             say_written(rt, b"block", units, &out)?;
             Ok(())
         }
-        Filled::Refused(refusal) => block_refused(rt, refusal, BLOCK_LIMIT),
+        Err(refusal) => block_refused(rt, refusal, BLOCK_LIMIT),
     }
 }
 
@@ -61,11 +60,11 @@ pub fn env(rt: &(impl Env + Print)) -> Result<()> {
 fn say_status_text(rt: &impl Print, number: u32) -> Result<()> {
     let mut out = [0u16; 32];
     match status::status_text(number, &mut out) {
-        Filled::Units(units) => {
+        Ok(units) => {
             say_written(rt, b"text", units, &out)?;
             Ok(())
         }
-        Filled::Refused(refusal) => status_refused(rt, refusal),
+        Err(refusal) => status_refused(rt, refusal),
     }
 }
 

@@ -5,8 +5,8 @@ ghost use Rattle.std.specs.Prelude.{◌≤◌, length};
 
 use octets::widen;
 use pages::{compare, put, put_units, verdict};
-use rules::{Built, Parsed};
-use std::io::Result;
+use rules::{Arguments, Line, Refusal};
+use std::io;
 use units::refusals::{number_of, place_of};
 
 // The arguments that were read, each with a line feed behind it, on a page. The answer is how many bytes they have.
@@ -24,7 +24,7 @@ fn put_arguments(page: &mut [u8], text: &[u16], spans: &[u32], count: usize) -> 
 }
 
 // A line is read as these arguments, each with a line feed behind it.
-pub fn reads(rt: &impl Print, line: &[u8], stated: &[u8]) -> Result<()> {
+pub fn reads(rt: &impl Print, line: &[u8], stated: &[u8]) -> io::Result<()> {
     let mut units = [0u16; 64];
     let mut text = [0u16; 64];
     let mut spans = [0u32; 32];
@@ -32,27 +32,27 @@ pub fn reads(rt: &impl Print, line: &[u8], stated: &[u8]) -> Result<()> {
     let from = 0;
     let n = widen(line, &mut units);
     match reading::parse_lp_cmd_line(&units[from..n], &[], &mut text, &mut spans) {
-        Parsed::Arguments { count, units: _ } => {
+        Ok(Arguments { count, units: _ }) => {
             let to = put_arguments(&mut page, &text, &spans, count);
             compare(rt, b"read ", line, &page[from..to], stated)
         }
-        Parsed::Refused(_) => verdict(rt, b"read ", line, false),
+        Err(_) => verdict(rt, b"read ", line, false),
     }
 }
 
 // What a builder wrote, or nothing where it refused.
-fn line_of(built: Built) -> usize {
+fn line_of(built: Result<Line, Refusal>) -> usize {
     match built {
-        Built::Line { units } => units,
-        Built::Refused(_) => 0,
+        Ok(Line { units }) => units,
+        Err(_) => 0,
     }
 }
 
 // The number and the place of a refusal are these; 0 and 0 where there is none.
-fn is_refusal(built: Built, number: u32, place: usize) -> bool {
+fn is_refusal(built: Result<Line, Refusal>, number: u32, place: usize) -> bool {
     match built {
-        Built::Line { units: _ } => number == 0,
-        Built::Refused(refusal) => (number_of(refusal) == number) & (place_of(refusal) == place),
+        Ok(Line { units: _ }) => number == 0,
+        Err(refusal) => (number_of(refusal) == number) & (place_of(refusal) == place),
     }
 }
 
@@ -64,7 +64,7 @@ fn written(
     out: &[u16],
     units: usize,
     stated: &[u8],
-) -> Result<()> {
+) -> io::Result<()> {
     let mut page = [0u8; 128];
     let from = 0;
     if out.len() < units {
@@ -75,7 +75,7 @@ fn written(
 }
 
 // Program `exe` and one regular argument are written as this line.
-pub fn writes(rt: &impl Print, arg: &[u8], stated: &[u8]) -> Result<()> {
+pub fn writes(rt: &impl Print, arg: &[u8], stated: &[u8]) -> io::Result<()> {
     let program = [101u16, 120, 101];
     let mut text = [0u16; 32];
     let mut out = [0u16; 96];
@@ -91,7 +91,7 @@ fn small(n: usize) -> u32 {
 }
 
 // The batch line of script `a.bat` and one regular argument.
-fn batch_line(arg: &[u8], out: &mut [u16]) -> Built {
+fn batch_line(arg: &[u8], out: &mut [u16]) -> Result<Line, Refusal> {
     let script = [97u16, 46, 98, 97, 116];
     let mut text = [0u16; 32];
     let n = widen(arg, &mut text);
@@ -100,14 +100,14 @@ fn batch_line(arg: &[u8], out: &mut [u16]) -> Built {
 }
 
 // Script `a.bat` and one regular argument are written as this batch line.
-pub fn batches(rt: &impl Print, arg: &[u8], stated: &[u8]) -> Result<()> {
+pub fn batches(rt: &impl Print, arg: &[u8], stated: &[u8]) -> io::Result<()> {
     let mut out = [0u16; 96];
     let built = batch_line(arg, &mut out);
     written(rt, b"batch ", arg, &out, line_of(built), stated)
 }
 
 // One regular argument of a batch line is refused by this number at this place.
-pub fn batch_refused(rt: &impl Print, arg: &[u8], number: u32, place: usize) -> Result<()> {
+pub fn batch_refused(rt: &impl Print, arg: &[u8], number: u32, place: usize) -> io::Result<()> {
     let mut out = [0u16; 96];
     let built = batch_line(arg, &mut out);
     verdict(
@@ -119,18 +119,20 @@ pub fn batch_refused(rt: &impl Print, arg: &[u8], number: u32, place: usize) -> 
 }
 
 // What was read has so many units, or is refused by this number; 0 where it is read.
-fn is_read(parsed: Parsed, units: usize, number: u32) -> bool {
+fn is_read(parsed: Result<Arguments, Refusal>, units: usize, number: u32) -> bool {
     match parsed {
-        Parsed::Arguments {
-            count: _,
-            units: got,
-        } => (number == 0) & (got == units),
-        Parsed::Refused(refusal) => number_of(refusal) == number,
+        Ok(
+            Arguments {
+                count: _,
+                units: got,
+            },
+        ) => (number == 0) & (got == units),
+        Err(refusal) => number_of(refusal) == number,
     }
 }
 
 // A line of so many units is read, or refused by this number.
-pub fn limit(rt: &impl Print, units: usize, number: u32, name: &[u8]) -> Result<()> {
+pub fn limit(rt: &impl Print, units: usize, number: u32, name: &[u8]) -> io::Result<()> {
     let line = [97u16; 32768];
     let mut text = [0u16; 32768];
     let mut spans = [0u32; 4];
@@ -143,7 +145,7 @@ pub fn limit(rt: &impl Print, units: usize, number: u32, name: &[u8]) -> Result<
 }
 
 // Four quotes, forced, take 10 units: a line of program `p` then has 14.
-pub fn bounds(rt: &impl Print) -> Result<()> {
+pub fn bounds(rt: &impl Print) -> io::Result<()> {
     let program = [112u16];
     let text = [34u16; 4];
     let records = [0u32, 0, 4];
@@ -158,7 +160,7 @@ pub fn bounds(rt: &impl Print) -> Result<()> {
 }
 
 // Nothing is written before a later argument is refused.
-pub fn unchanged(rt: &impl Print) -> Result<()> {
+pub fn unchanged(rt: &impl Print) -> io::Result<()> {
     let program = [112u16];
     let text = [97u16, 0];
     let records = [0u32, 0, 1, 0, 1, 1];

@@ -7,7 +7,7 @@ ghost use Rattle.rules.specs.Block.{block_limit};
 ghost use Rattle.rules.specs.BlockReading.{block_reading};
 ghost use Rattle.entries.specs.Tallied.{Tallied};
 
-use rules::{Listed, Refusal};
+use rules::{Entries, Refusal};
 use walking::{Tally, walk};
 
 mod marks;
@@ -26,22 +26,22 @@ fn measure(block: &[u16]) -> Tally
 }
 
 // Lists the entries of a block that `make_envp` or a process has made. A refusal is decided before anything is stored.
-pub fn read_envp(block: &[u16], spans: &mut [u32]) -> Listed
+pub fn read_envp(block: &[u16], spans: &mut [u32]) -> Result<Entries, Refusal>
     ensures { Listing (block_reading block.now (length spans.old)) result spans.old spans.new }
 {
     if BLOCK_LIMIT < block.len() {
-        return Listed::Refused(Refusal::Length);
+        return Err(Refusal::Length);
     }
     let need = measure(block);
     if need.bad != 0 {
-        return Listed::Refused(Refusal::Entry(need.bad));
+        return Err(Refusal::Entry(need.bad));
     }
     if spans.len() / 2 < 2 * need.count {
-        return Listed::Refused(Refusal::Places);
+        return Err(Refusal::Places);
     }
     walk(block, spans);
-    Listed::Entries {
+    Ok(Entries {
         count: need.count,
         units: need.used,
-    }
+    })
 }

@@ -1,12 +1,12 @@
 // Lines that the entries over a slice of records build, printed: an ordinary line, a batch line, and two refusals.
 use octets::widen;
 use pages::{put_units, say};
-use rules::{Arg, Built, Refusal};
-use std::io::Result;
+use rules::{Arg, Line, Refusal};
+use std::io;
 use units::refusals::{number_of, place_of};
 
 // A line of so many units, as far as a page holds it.
-fn print_line(rt: &impl Print, out: &[u16], units: usize) -> Result<()> {
+fn print_line(rt: &impl Print, out: &[u16], units: usize) -> io::Result<()> {
     let mut page = [0u8; 128];
     let from = 0;
     if out.len() < units {
@@ -19,7 +19,7 @@ fn print_line(rt: &impl Print, out: &[u16], units: usize) -> Result<()> {
 }
 
 // A refusal's number and place.
-fn print_refusal(rt: &impl Print, refusal: Refusal) -> Result<()> {
+fn print_refusal(rt: &impl Print, refusal: Refusal) -> io::Result<()> {
     say(rt, b"refused ")?;
     rt.print(number_of(refusal))?;
     say(rt, b" ")?;
@@ -28,10 +28,10 @@ fn print_refusal(rt: &impl Print, refusal: Refusal) -> Result<()> {
 }
 
 // An answer on a line of its own.
-fn print_answer(rt: &impl Print, answer: Built, out: &[u16]) -> Result<()> {
+fn print_answer(rt: &impl Print, answer: Result<Line, Refusal>, out: &[u16]) -> io::Result<()> {
     match answer {
-        Built::Line { units } => print_line(rt, out, units),
-        Built::Refused(refusal) => print_refusal(rt, refusal),
+        Ok(Line { units }) => print_line(rt, out, units),
+        Err(refusal) => print_refusal(rt, refusal),
     }
 }
 
@@ -51,7 +51,7 @@ fn records(third: u32) -> [Arg; 4] {
 }
 
 // An ordinary line of program `p\go.exe` into what is lent.
-fn print_ordinary(rt: &impl Print, third: u32, text: &[u16], out: &mut [u16]) -> Result<()> {
+fn print_ordinary(rt: &impl Print, third: u32, text: &[u16], out: &mut [u16]) -> io::Result<()> {
     let mut program = [0u16; 8];
     widen(b"p\\go.exe", &mut program);
     let answer = slices::make_command_line_of_four(&program, records(third), text, false, out);
@@ -59,7 +59,7 @@ fn print_ordinary(rt: &impl Print, third: u32, text: &[u16], out: &mut [u16]) ->
 }
 
 // A batch line of script `go.bat` with forced quotes into what is lent.
-fn print_batch(rt: &impl Print, text: &[u16], out: &mut [u16]) -> Result<()> {
+fn print_batch(rt: &impl Print, text: &[u16], out: &mut [u16]) -> io::Result<()> {
     let mut script = [0u16; 6];
     widen(b"go.bat", &mut script);
     let answer = slices::make_bat_command_line_of_four(&script, records(0), text, true, out);
@@ -67,7 +67,7 @@ fn print_batch(rt: &impl Print, text: &[u16], out: &mut [u16]) -> Result<()> {
 }
 
 // Two lines; a record of no kind; a line that has no room.
-pub fn print_lines(rt: &impl Print) -> Result<()> {
+pub fn print_lines(rt: &impl Print) -> io::Result<()> {
     let mut text = [0u16; 24];
     let mut out = [0u16; 128];
     let mut short = [0u16; 20];

@@ -33,8 +33,8 @@ found_said Found.Nowhere = nowhere
 
 -- what a lookup answers to it
 abbrev pub hit_of : Found → Result Cached Refusal
-hit_of (Found.There start units) = Cached.Hit start units
-hit_of Found.Nowhere = (Ok Cached.Missed)
+hit_of (Found.There start units) = Ok (Cached.Hit start units)
+hit_of Found.Nowhere = Ok Cached.Missed
 
 -- what is found lies within so many units
 abbrev pub Lies : ℕ → Found → Type 0

@@ -8,7 +8,7 @@ use console::reports::{say, say_behind, say_bracketed, say_entry, say_number};
 use console::room;
 use dumps::{read_word, units_of};
 use entries::{BLOCK_LIMIT, read_envp};
-use rules::Listed;
+use rules::Entries;
 use scans::find_nul;
 use std::io::Result;
 use terminal::words::arg_count;
@@ -89,11 +89,11 @@ fn say_fault(rt: &impl Print, block: &[u16], number: usize) -> Result<()> {
 fn list(rt: &impl Print, block: &[u16]) -> Result<()> {
     let mut spans = room::table();
     match read_envp(block, &mut spans) {
-        Listed::Entries { count, units } => {
+        Ok(Entries { count, units }) => {
             say_entries(rt, block, &spans, count)?;
             say_used(rt, block, count, units)
         }
-        Listed::Refused(refusal) => {
+        Err(refusal) => {
             block_unread(rt, refusal, BLOCK_LIMIT)?;
             let place = place_of(refusal);
             if place != 0 {

@@ -12,7 +12,7 @@ ghost use Rattle.reading.specs.House.{Short, Housed, housed, sure};
 ghost use Rattle.reading.specs.Span.{argument_span};
 
 use laying::lay_line;
-use rules::{Parsed, Refusal};
+use rules::{Arguments, Refusal};
 use scans::find_nul;
 
 // The most units of a line that is read.
@@ -40,19 +40,29 @@ fn surely_fits(units: usize, room: usize, numbers: usize) -> bool
 }
 
 // Lays out arguments that surely fit: nothing can be refused any more, so nothing is measured before.
-fn read_at_once(line: &[u16], exe_name: &[u16], text: &mut [u16], spans: &mut [u32]) -> Parsed
+fn read_at_once(
+    line: &[u16],
+    exe_name: &[u16],
+    text: &mut [u16],
+    spans: &mut [u32],
+) -> Result<Arguments, Refusal>
     requires { Short line.now exe_name.now × Housed (line_arguments line.now exe_name.now) (length text.old) (length spans.old) }
     ensures { Read (housed (line_arguments line.now exe_name.now) (length text.old) (length spans.old)) result text.old text.new spans.old spans.new }
 {
     let laid = lay_line(line, exe_name, text, spans);
-    Parsed::Arguments {
+    Ok(Arguments {
         count: laid.count,
         units: laid.units,
-    }
+    })
 }
 
 // Measures first, so that every refusal is decided before anything is stored; then writes.
-fn read_measured(line: &[u16], exe_name: &[u16], text: &mut [u16], spans: &mut [u32]) -> Parsed
+fn read_measured(
+    line: &[u16],
+    exe_name: &[u16],
+    text: &mut [u16],
+    spans: &mut [u32],
+) -> Result<Arguments, Refusal>
     requires { Short line.now exe_name.now }
     ensures { Read (housed (line_arguments line.now exe_name.now) (length text.old) (length spans.old)) result text.old text.new spans.old spans.new }
 {
@@ -60,10 +70,10 @@ fn read_measured(line: &[u16], exe_name: &[u16], text: &mut [u16], spans: &mut [
     let none = 0;
     let need = lay_line(line, exe_name, &mut text[..none], &mut spans[..none]);
     if places < need.count {
-        return Parsed::Refused(Refusal::Places);
+        return Err(Refusal::Places);
     }
     if text.len() < need.units {
-        return Parsed::Refused(Refusal::Room);
+        return Err(Refusal::Room);
     }
     read_at_once(line, exe_name, text, spans)
 }
@@ -74,13 +84,13 @@ pub fn parse_lp_cmd_line(
     exe_name: &[u16],
     text: &mut [u16],
     spans: &mut [u32],
-) -> Parsed
+) -> Result<Arguments, Refusal>
     ensures { Read (reading exe_name.now units.now (length text.old) (length spans.old)) result text.old text.new spans.old spans.new }
 {
     let n = find_nul(units);
     let counted = units_read(n, exe_name.len());
     if READ_LIMIT < counted {
-        return Parsed::Refused(Refusal::Length);
+        return Err(Refusal::Length);
     }
     if surely_fits(counted, text.len(), spans.len()) {
         return read_at_once(&units[..n], exe_name, text, spans);

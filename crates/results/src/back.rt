@@ -4,7 +4,7 @@ use console::messages::line_unread;
 use console::reports::{say, say_argument, say_number};
 use console::room;
 use reading::{READ_LIMIT, argument, parse_lp_cmd_line};
-use rules::Parsed;
+use rules::Arguments;
 use scans::has_quote;
 use std::io::Result;
 
@@ -65,8 +65,8 @@ pub fn say_read(rt: &impl Print, line: &[u16], name: &[u16]) -> Result<()> {
     let mut back = room::back();
     let mut spans = room::spans();
     match parse_lp_cmd_line(line, name, &mut back, &mut spans) {
-        Parsed::Arguments { count, units: _ } => say_arguments(rt, &back, &spans, count),
-        Parsed::Refused(refusal) => line_unread(rt, refusal, READ_LIMIT),
+        Ok(Arguments { count, units: _ }) => say_arguments(rt, &back, &spans, count),
+        Err(refusal) => line_unread(rt, refusal, READ_LIMIT),
     }
 }
 
@@ -103,10 +103,10 @@ pub fn read_back(
     let mut back = room::back();
     let mut spans = room::spans();
     match parse_lp_cmd_line(line, program, &mut back, &mut spans) {
-        Parsed::Arguments { count, units: _ } => compare(
+        Ok(Arguments { count, units: _ }) => compare(
             rt, count, program, table, text, &back, &spans,
         ),
-        Parsed::Refused(refusal) => line_unread(rt, refusal, READ_LIMIT),
+        Err(refusal) => line_unread(rt, refusal, READ_LIMIT),
     }
 }
 

@@ -3,12 +3,12 @@ ghost use Rattle.std.specs.Prelude.{◌≤◌, length, IfOk};
 
 use console::messages::line_refused;
 use console::reports::{say, say_number, say_result};
-use rules::Built;
-use std::io::Result;
+use rules::{Line, Refusal};
+use std::io;
 use terminal::numbers::Signed;
 
 // What was written, so many units of what was lent. The answer is how many.
-pub fn say_written(rt: &impl Print, what: &[u8], units: usize, out: &[u16]) -> Result<usize>
+pub fn say_written(rt: &impl Print, what: &[u8], units: usize, out: &[u16]) -> io::Result<usize>
     ensures { IfOk result (λ n. n ≤ length out.now) }
 {
     if out.len() < units {
@@ -19,12 +19,17 @@ pub fn say_written(rt: &impl Print, what: &[u8], units: usize, out: &[u16]) -> R
 }
 
 // A line that was built, or why it was not, by its limit. The answer is how many units it has, 0 where it is refused.
-pub fn say_built(rt: &impl Print, built: Built, out: &[u16], limit: usize) -> Result<usize>
+pub fn say_built(
+    rt: &impl Print,
+    built: Result<Line, Refusal>,
+    out: &[u16],
+    limit: usize,
+) -> io::Result<usize>
     ensures { IfOk result (λ n. n ≤ length out.now) }
 {
     match built {
-        Built::Line { units } => say_written(rt, b"line", units, out),
-        Built::Refused(refusal) => {
+        Ok(Line { units }) => say_written(rt, b"line", units, out),
+        Err(refusal) => {
             line_refused(rt, refusal, limit)?;
             Ok(0)
         }
@@ -32,7 +37,7 @@ pub fn say_built(rt: &impl Print, built: Built, out: &[u16], limit: usize) -> Re
 }
 
 // The signed code of a status.
-pub fn say_code(rt: &impl Print, signed: Signed) -> Result<()> {
+pub fn say_code(rt: &impl Print, signed: Signed) -> io::Result<()> {
     say(rt, b"signed code: ")?;
     if signed.negative {
         say(rt, b"-")?;
@@ -42,7 +47,7 @@ pub fn say_code(rt: &impl Print, signed: Signed) -> Result<()> {
 }
 
 // Whether a path has the suffix of a batch script, in words.
-pub fn say_suffix(rt: &impl Print, batch: bool) -> Result<()> {
+pub fn say_suffix(rt: &impl Print, batch: bool) -> io::Result<()> {
     if batch {
         say(
             rt,

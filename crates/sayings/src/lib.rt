@@ -9,7 +9,7 @@ ghost use Rattle.sayings.specs.Told.{answer as Told·answer, brief as Told·brie
 ghost use Rattle.sayings.specs.Told.{said_in, numbered, text_told, lent_told, texts_told, counts_told, entries_told, span_of, Serves};
 
 use replies::answers::{Answer, Manner, Word};
-use rules::{Built, Cached, Filled, Listed, Parsed, Refusal};
+use rules::{Arguments, Cached, Entries, Line, Refusal};
 use stores::put_number;
 use units::parts::smaller;
 use units::refusals::{number_of, place_of};
@@ -48,42 +48,42 @@ fn of_counts(arguments: usize, units: usize) -> Saying
 }
 
 // What a builder of lines said.
-pub fn of_built(b: Built) -> Saying
+pub fn of_built(b: Result<Line, Refusal>) -> Saying
     ensures { said_in result ≡ built_said b }
 {
     match b {
-        Built::Line { units } => of_counts(0, units),
-        Built::Refused(r) => of_refusal(r),
+        Ok(Line { units }) => of_counts(0, units),
+        Err(r) => of_refusal(r),
     }
 }
 
 // What a writer of units said.
-pub fn of_filled(f: Filled) -> Saying
+pub fn of_filled(f: Result<usize, Refusal>) -> Saying
     ensures { said_in result ≡ filled_said f }
 {
     match f {
-        Filled::Units(units) => of_counts(0, units),
-        Filled::Refused(r) => of_refusal(r),
+        Ok(units) => of_counts(0, units),
+        Err(r) => of_refusal(r),
     }
 }
 
 // What the reader said.
-pub fn of_parsed(p: Parsed) -> Saying
+pub fn of_parsed(p: Result<Arguments, Refusal>) -> Saying
     ensures { said_in result ≡ parsed_said p }
 {
     match p {
-        Parsed::Arguments { count, units } => of_counts(count, units),
-        Parsed::Refused(r) => of_refusal(r),
+        Ok(Arguments { count, units }) => of_counts(count, units),
+        Err(r) => of_refusal(r),
     }
 }
 
 // What the block reader said.
-pub fn of_listed(l: Listed) -> Saying
+pub fn of_listed(l: Result<Entries, Refusal>) -> Saying
     ensures { said_in result ≡ listed_said l }
 {
     match l {
-        Listed::Entries { count, units } => of_counts(count, units),
-        Listed::Refused(r) => of_refusal(r),
+        Ok(Entries { count, units }) => of_counts(count, units),
+        Err(r) => of_refusal(r),
     }
 }
 
@@ -208,15 +208,15 @@ fn line_told(word: Word, start: usize, units: usize, spans: &mut [u32]) -> Answe
 }
 
 // `hit LINE`, `miss`, `stored LINE` or `held LINE`; the table's first text is the line, a part of the store's units
-pub fn cached_told(c: Cached, spans: &mut [u32]) -> Answer
+pub fn cached_told(c: Result<Cached, Refusal>, spans: &mut [u32]) -> Answer
     ensures { Serves (cached_said c) result spans.old spans.new }
 {
     match c {
-        Cached::Missed => brief(Word::Miss, 0, 0, 0, 0),
-        Cached::Hit { start, units } => line_told(Word::Hit, start, units, spans),
-        Cached::Held { start, units } => line_told(Word::Held, start, units, spans),
-        Cached::Stored { start, units } => line_told(Word::Stored, start, units, spans),
-        Cached::Refused(r) => {
+        Ok(Cached::Missed) => brief(Word::Miss, 0, 0, 0, 0),
+        Ok(Cached::Hit { start, units }) => line_told(Word::Hit, start, units, spans),
+        Ok(Cached::Held { start, units }) => line_told(Word::Held, start, units, spans),
+        Ok(Cached::Stored { start, units }) => line_told(Word::Stored, start, units, spans),
+        Err(r) => {
             let s = of_refusal(r);
             brief(Word::Refused, 2, s.number, s.place, 0)
         }

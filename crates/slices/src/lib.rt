@@ -7,7 +7,7 @@ ghost use Rattle.rules.specs.Building.{command_line, batch_command_line, either_
 ghost use Rattle.rules.specs.Record.{flat_of};
 
 use building::{turns, works};
-use rules::{Arg, Built};
+use rules::{Arg, Line, Refusal};
 use units::classes;
 
 // Builds a line of either kind. The one loop of this crate: each turn hands on the state by value.
@@ -18,7 +18,7 @@ fn make_line_of(
     text: &[u16],
     force_quotes: bool,
     out: &mut [u16],
-) -> Built
+) -> Result<Line, Refusal>
     ensures { Answered (either_line batch force_quotes lent.now (flat_of args.now) text.now (length out.old)) (built_said result) out.old out.new }
 {
     let classes = classes::classes();
@@ -46,7 +46,7 @@ pub fn make_command_line_of(
     text: &[u16],
     force_quotes: bool,
     out: &mut [u16],
-) -> Built
+) -> Result<Line, Refusal>
     ensures { Answered (command_line force_quotes program.now (flat_of args.now) text.now (length out.old)) (built_said result) out.old out.new }
 {
     make_line_of(false, program, args, text, force_quotes, out)
@@ -59,7 +59,7 @@ pub fn make_bat_command_line_of(
     text: &[u16],
     force_quotes: bool,
     out: &mut [u16],
-) -> Built
+) -> Result<Line, Refusal>
     ensures { Answered (batch_command_line force_quotes script.now (flat_of args.now) text.now (length out.old)) (built_said result) out.old out.new }
 {
     make_line_of(true, script, args, text, force_quotes, out)
@@ -72,7 +72,7 @@ pub fn make_command_line_of_four(
     text: &[u16],
     force_quotes: bool,
     out: &mut [u16],
-) -> Built
+) -> Result<Line, Refusal>
     ensures { Answered (command_line force_quotes program.now (flat_of args) text.now (length out.old)) (built_said result) out.old out.new }
 {
     make_command_line_of(program, &args, text, force_quotes, out)
@@ -85,7 +85,7 @@ pub fn make_bat_command_line_of_four(
     text: &[u16],
     force_quotes: bool,
     out: &mut [u16],
-) -> Built
+) -> Result<Line, Refusal>
     ensures { Answered (batch_command_line force_quotes script.now (flat_of args) text.now (length out.old)) (built_said result) out.old out.new }
 {
     make_bat_command_line_of(script, &args, text, force_quotes, out)

@@ -6,7 +6,7 @@ ghost use Rattle.rules.specs.Answer.{Answered, filled_said};
 ghost use Rattle.rules.specs.Status.{glyph, status_outcome, signed_code};
 ghost use Rattle.status.specs.Text.{DigitsLaid, fitted};
 
-use rules::{Filled, Refusal};
+use rules::Refusal;
 use stores::copy_run;
 
 // What stands in front of a decimal number: `exit code: `.
@@ -46,23 +46,23 @@ fn lay_digits(base: u32, number: u32, places: &mut [u16; 10]) -> usize
 }
 
 // Writes front and digits, where the output has room for both.
-fn answer(front: &[u16], digits: &[u16], out: &mut [u16]) -> Filled
+fn answer(front: &[u16], digits: &[u16], out: &mut [u16]) -> Result<usize, Refusal>
     ensures { Answered (fitted (front.now ++ digits.now) (length out.old)) (filled_said result) out.old out.new }
 {
     let units = front.len() + digits.len();
     if out.len() < units {
-        return Filled::Refused(Refusal::Room);
+        return Err(Refusal::Room);
     }
     copy_run(out, 0, front);
     copy_run(out, front.len(), digits);
-    Filled::Units(units)
+    Ok(units)
 }
 
 // The least status that is written in hexadecimal: the high bit is set from here on.
 const FIRST_HEXADECIMAL: u32 = 2147483648;
 
 // The text of a status (Rust: the `Display` of `ExitStatus`).
-pub fn status_text(status: u32, out: &mut [u16]) -> Filled
+pub fn status_text(status: u32, out: &mut [u16]) -> Result<usize, Refusal>
     ensures { Answered (status_outcome status (length out.old)) (filled_said result) out.old out.new }
 {
     let mut places = [0u16; 10];

@@ -11,7 +11,7 @@ ghost use Rattle.storing.specs.Added.{refusal_for, EntryPut, Adds};
 use building::make_command_line;
 use keys::index::{flag_word, word_at};
 use keys::laying;
-use rules::{Built, Cached, Refusal};
+use rules::{Cached, Line, Refusal};
 use units::parts;
 use units::refusals::number_of;
 
@@ -85,7 +85,7 @@ pub fn add(
     records: &[u32],
     text: &[u16],
     force_quotes: bool,
-) -> Cached
+) -> Result<Cached, Refusal>
     requires { 2 + 6 * places ≤ length index.old }
     ensures { Adds places fingerprint (launch force_quotes program.now records.now text.now) result index.old units.old index.new units.new }
 {
@@ -95,8 +95,8 @@ pub fn add(
     let key = laying::key_size(program, records, text, units.len() - used);
     let start = place_for(full, units.len(), used + key);
     match make_command_line(program, records, text, force_quotes, &mut units[start..]) {
-        Built::Refused(r) => Cached::Refused(refusal_for(full, r)),
-        Built::Line { units: line } => {
+        Err(r) => Err(refusal_for(full, r)),
+        Ok(Line { units: line }) => {
             laying::put_key(units, used, program, records, text);
             put_entry(
                 index,
@@ -108,7 +108,7 @@ pub fn add(
                 key,
                 line,
             );
-            Cached::Stored { start, units: line }
+            Ok(Cached::Stored { start, units: line })
         }
     }
 }
