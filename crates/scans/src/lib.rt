@@ -2,7 +2,7 @@
 #![tactic(auto)]
 
 ghost use Rattle.std.specs.Prelude.{◌≡◌, ◌+◌, ◌≤◌, length};
-ghost use Rattle.rules.specs.Choice.{any, flip};
+ghost use Rattle.rules.specs.Choice.{any};
 ghost use Rattle.rules.specs.Record.{part};
 ghost use Rattle.rules.specs.Batch.{ends_in_backslash};
 ghost use Rattle.rules.specs.Unit.{is_nul, is_line_break, is_blank, is_quote, is_backslash};
@@ -12,10 +12,7 @@ ghost use Rattle.laws.specs.Scan.{leading, before, is_unit, is_either, is_one_of
 pub fn is_blank(unit: u16) -> bool
     ensures { result ≡ is_blank unit }
 {
-    if unit == 32 {
-        return true;
-    }
-    unit == 9
+    unit == 32 || unit == 9
 }
 
 // Whether one of the four units from a place on is x. No branch stands between the tests, so that the machine makes them at once.
@@ -54,14 +51,7 @@ pub fn eight_have_either(units: &[u16], at: usize, a: u16, b: u16) -> bool
 fn few_have_either(units: &[u16], a: u16, b: u16) -> bool
     ensures { result ≡ any (is_either a b) units.now }
 {
-    let mut i = 0;
-    while i < units.len() {
-        if (units[i] == a) | (units[i] == b) {
-            return true;
-        }
-        i += 1;
-    }
-    false
+    units.iter().any(|x| (*x == a) | (*x == b))
 }
 
 // Whether a unit is a or b, for eight units or more: by eights, the last of which ends with the units and overlaps the one before.
@@ -122,26 +112,21 @@ pub fn has_blank(units: &[u16]) -> bool
     has_either(units, 32, 9)
 }
 
-// Whether a unit is none of four. The tests are joined without a branch.
-fn is_none(unit: u16, a: u16, b: u16, c: u16, d: u16) -> bool
-    ensures { result ≡ flip (is_one_of a b c d unit) }
+// Whether a unit is one of four. The tests are joined without a branch.
+fn is_one_of(unit: u16, a: u16, b: u16, c: u16, d: u16) -> bool
+    ensures { result ≡ is_one_of a b c d unit }
 {
-    ((unit != a) & (unit != b)) & ((unit != c) & (unit != d))
+    ((unit == a) | (unit == b)) | ((unit == c) | (unit == d))
 }
 
 // The index of the first unit that is one of four, or the length where there is none, one unit after another.
 fn find_slowly(units: &[u16], a: u16, b: u16, c: u16, d: u16) -> usize
     ensures { result ≡ before (is_one_of a b c d) units.now }
 {
-    let mut i = 0;
-    while i < units.len() {
-        if is_none(units[i], a, b, c, d) {
-            i += 1;
-        } else {
-            return i;
-        }
-    }
-    i
+    units
+        .iter()
+        .position(|x| is_one_of(*x, a, b, c, d))
+        .unwrap_or(units.len())
 }
 
 // The index of the first unit from a place on that is one of four, by eights, where none before that place is.
@@ -201,38 +186,21 @@ pub fn find_nul(units: &[u16]) -> usize
 pub fn blanks(rest: &[u16]) -> usize
     ensures { result ≡ leading is_blank rest.now }
 {
-    let mut i = 0;
-    while i < rest.len() {
-        if is_blank(rest[i]) {
-            i += 1;
-        } else {
-            return i;
-        }
-    }
-    i
+    rest.iter()
+        .position(|x| !is_blank(*x))
+        .unwrap_or(rest.len())
 }
 
 // How many backslashes the rest of a line starts with.
 pub fn backslashes(rest: &[u16]) -> usize
     ensures { result ≡ leading is_backslash rest.now }
 {
-    let mut i = 0;
-    while i < rest.len() {
-        if rest[i] == 92 {
-            i += 1;
-        } else {
-            return i;
-        }
-    }
-    i
+    rest.iter().position(|x| *x != 92).unwrap_or(rest.len())
 }
 
 // Whether the last unit is a backslash.
 pub fn ends_in_backslash(units: &[u16]) -> bool
     ensures { result ≡ ends_in_backslash units.now }
 {
-    if units.len() == 0 {
-        return false;
-    }
-    units[units.len() - 1] == 92
+    units.last() == Some(&92)
 }

@@ -1,19 +1,14 @@
 -- `scans::blanks` meets its contract. Assumes nothing.
-use mathlib.Core.Path.{sym, ◌∙◌}
+use Rattle.std.proofs.Common.{refl, rules, tests}
+use Rattle.std.proofs.lemmas.Iterator.{YieldsList-from_slice}
+use Rattle.std.proofs.lemmas.Iterator.Search.{position_from_yields_List}
+use Rattle.rules.specs.Choice.{flip}
 use Rattle.rules.specs.Unit.{is_blank}
-use Rattle.laws.specs.Scan.{none_passed, one_more, stopped, all_passed}
+use Rattle.scans.proofs.Runs.{first_or_end}
 use Rattle.scans.proofs.blanks.Goals as goal
 
-pub loop-i-init : goal.loop-i-init
-loop-i-init c = none_passed _ _
-
-pub loop-i-preserved : goal.loop-i-preserved
-loop-i-preserved c =
-    one_more is_blank _ _ c.loop-i.invariant c.loop-i-test.true (sym c.is_blank.ensures ∙ c.if-is_blank.true)
-
-pub returns-else-is_blank : goal.returns-else-is_blank
-returns-else-is_blank c =
-    stopped is_blank _ _ c.loop-i.invariant c.loop-i-test.true (sym c.is_blank.ensures ∙ c.if-is_blank.false)
-
 pub returns : goal.returns
-returns c = all_passed _ _ _ c.loop-i.invariant c.loop-i-test.false
+returns c =
+    let xs = c.args.rest.now in
+    let found = position_from_yields_List (λ x. flip (is_blank x)) _ _ c.position.result c.position.ensures.ran (YieldsList-from_slice xs cc) (λ x b q k. search (rules, tests)) in
+    first_or_end is_blank _ (λ x. refl) xs c.position.result c.unwrap_or.result found (search rules)

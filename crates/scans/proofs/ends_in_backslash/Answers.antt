@@ -1,9 +1,8 @@
 -- `scans::ends_in_backslash` meets its contract. Assumes nothing.
-use Rattle.laws.specs.Last.{last_unit, no_last}
+use Rattle.std.proofs.Common.{refl, ap, ◌∙◌}
+use Rattle.scans.proofs.Runs.{last_is_backslash, lent_last, last_ends}
 use Rattle.scans.proofs.ends_in_backslash.Goals as goal
 
-pub returns-then-units-eq0 : goal.returns-then-units-eq0
-returns-then-units-eq0 c = no_last _ c.if-units-eq0.true
-
 pub returns : goal.returns
-returns c = last_unit c.args.units.now
+returns c =
+    c.eq.ensures ∙ lent_last c.last.result _ refl ∙ ap last_is_backslash c.last.ensures.value ∙ last_ends c.args.units.now
