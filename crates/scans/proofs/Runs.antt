@@ -33,11 +33,6 @@ first_or_end p q h xs r n e f = go (ltb (position_or_len q xs) (length xs)) refl
     go true l s = f ∙ rw s (first_is p q h xs)
     go false l s = f ∙ rw s (omega (arith, ltb-false _ _ l, first_is p q h xs, leading_in p xs))
 
--- what is not passed over stops
-pub flip_twice : (b : Bool) → b ≡ flip (flip b)
-flip_twice true = refl
-flip_twice false = refl
-
 -- ---- the last unit
 
 -- whether the last unit, if there is one, is a backslash
