@@ -1,10 +1,6 @@
 -- The invariant and the measure of `stores::copy_slowly`. Assumes nothing.
-use Prim.Native.Nat.{◌-◌}
 use Rattle.stores.proofs.Clip.{Storing}
 use Rattle.stores.proofs.copy_slowly.Given as goal
 
 abbrev pub invariant-loop-i : goal.invariant-loop-i
 invariant-loop-i l = Storing l.n l.at l.run l.initial.out l.out l.i
-
-abbrev pub decreases-loop-i : goal.decreases-loop-i
-decreases-loop-i l = l.n - l.i

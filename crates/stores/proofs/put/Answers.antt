@@ -4,4 +4,4 @@ use lib.Seq.{set_out}
 use Rattle.stores.proofs.put.Goals as goal
 
 pub returns-else-at-out : goal.returns-else-at-out
-returns-else-at-out c = sym (set_out _ _ _ c.if-at-out.false)
+returns-else-at-out g c = sym (set_out _ _ _ c.if-at-out.false)

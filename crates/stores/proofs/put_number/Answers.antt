@@ -1,7 +1,0 @@
--- `stores::put_number` meets its contract. Assumes nothing.
-use mathlib.Core.Path.{sym}
-use lib.Seq.{set_out}
-use Rattle.stores.proofs.put_number.Goals as goal
-
-pub returns-else-at-table : goal.returns-else-at-table
-returns-else-at-table c = sym (set_out _ _ _ c.if-at-table.false)
