@@ -5,12 +5,14 @@ ghost use Rattle.rules.specs.Status.{glyph as Status·glyph};
 ghost use Rattle.laws.specs.Placed.{Placed};
 ghost use Rattle.octets.specs.Braced.{braced};
 
+use stores::put;
+
 // A byte at its place, where the output has that place, and the place behind it.
 pub fn put_one(out: &mut [u8], at: usize, byte: u8) -> usize
     requires { at + 1 < 2 ^ 64 }
     ensures { Placed (byte ∷ []) at result out.old out.new }
 {
-    crate::put_byte(out, at, byte);
+    put(out, at, byte);
     at + 1
 }
 
@@ -21,9 +23,10 @@ fn glyph(digit: u64) -> u8
 {
     let byte = digit as u8;
     if byte < 10 {
-        return 48 + byte;
+        b'0' + byte
+    } else {
+        b'a' - 10 + byte
     }
-    87 + byte
 }
 
 // A number's digits in a base.
@@ -43,7 +46,7 @@ pub fn put_braced(out: &mut [u8], at: usize, unit: u16) -> usize
     requires { at + 128 < 2 ^ 64 }
     ensures { Placed (braced unit) at result out.old out.new }
 {
-    let inside = put_one(out, at, 123);
-    let end = put_digits(out, inside, 16, unit as u64);
-    put_one(out, end, 125)
+    let inside = put_one(out, at, b'{');
+    let end = put_digits(out, inside, 16, u64::from(unit));
+    put_one(out, end, b'}')
 }

@@ -1,13 +1,8 @@
--- The invariant and the measure of `octets::find`. Assumes nothing.
+-- The invariant of `octets::find`. Assumes nothing.
 use lib.Dec.{eqb}
-use lib.ListN.{length}
-use Prim.Native.Nat.{◌-◌}
 use Rattle.rules.specs.Choice.{flip}
 use Rattle.laws.specs.Scan.{Passed}
 use Rattle.octets.proofs.find.Given as goal
 
 abbrev pub invariant-loop-i : goal.invariant-loop-i
 invariant-loop-i l = Passed (λ x. flip (eqb x l.byte)) l.bytes l.i
-
-abbrev pub decreases-loop-i : goal.decreases-loop-i
-decreases-loop-i l = length l.bytes - l.i

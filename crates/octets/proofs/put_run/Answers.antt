@@ -6,11 +6,10 @@ use mathlib.Core.Path.{◌∙◌, ◌≡◌, refl, sym}
 use mathlib.Core.List.{[]}
 use lib.ListN.{drop, drop_of_length-le}
 use Rattle.laws.specs.Store.{copy_turn}
-use borrow.Author.Rules.{rules}
 use Rattle.octets.proofs.put_run.Goals as goal
 
 pub loop-i-init : goal.loop-i-init
-loop-i-init c = (search rules, refl, rw add-zero)
+loop-i-init c = (refl, rw add-zero)
 
 pub loop-i-preserved : goal.loop-i-preserved
 loop-i-preserved c =
@@ -18,14 +17,14 @@ loop-i-preserved c =
     let at = c.args.at in
     let turn = copy_turn l.out (at + l.i) l.i _ c.loop-i-test.true in
     let next : at + (l.i + 1) ≡ at + l.i + 1 = omega arith in
-    (omega arith, c.put_byte.auto.out ∙ l.invariant.1, rw (next, c.put_byte.ensures) (sym turn ∙ l.invariant.2))
+    (c.put.auto.out ∙ l.invariant.0, rw (next, c.put.ensures) (sym turn ∙ l.invariant.1))
 
 pub shape_of-out : goal.shape_of-out
-shape_of-out c = c.loop-i.invariant.1
+shape_of-out c = c.loop-i.invariant.0
 
 pub returns : goal.returns
 returns c =
     let t = c.args.run.now in
     let l = c.loop-i in
     let e : drop l.i t ≡ [] = drop_of_length-le t {i = l.i} c.loop-i-test.false in
-    record { ends = omega arith; stores = rw e at l.invariant.2 }
+    record { ends = refl; stores = rw e at l.invariant.1 }

@@ -5,5 +5,5 @@ use Rattle.octets.proofs.digits.glyph.Goals as goal
 pub returns-then-byte-lt10 : goal.returns-then-byte-lt10
 returns-then-byte-lt10 c = rw (lt-ltb _ 10 c.if-byte-lt10.true)
 
-pub returns : goal.returns
-returns c = rw (le-ltb _ 10 c.if-byte-lt10.false)
+pub returns-else-byte-lt10 : goal.returns-else-byte-lt10
+returns-else-byte-lt10 c = rw (le-ltb _ 10 c.if-byte-lt10.false)

@@ -3,4 +3,4 @@ use Rattle.laws.specs.Placed.{unit_placed}
 use Rattle.octets.proofs.digits.put_one.Goals as goal
 
 pub returns : goal.returns
-returns c = unit_placed _ _ c.put_byte.ensures
+returns c = unit_placed _ _ c.put.ensures
