@@ -5,8 +5,6 @@ ghost use Rattle.std.specs.Prelude.{◌≡◌, ◌+◌, ◌≤◌, length};
 ghost use Rattle.rules.specs.Choice.{equal};
 ghost use Rattle.rules.specs.Record.{part};
 
-use units::parts::smaller;
-
 // Whether the four units from a place on are the same in both runs. No branch stands between the tests, so that the machine makes them at once.
 fn four_same(a: &[u16], b: &[u16], at: usize) -> bool
     requires { (at + 4 ≤ length a.now) × (at + 4 ≤ length b.now) }
@@ -32,10 +30,8 @@ fn all_same(a: &[u16], b: &[u16]) -> bool
     ensures { result ≡ equal a.now b.now }
 {
     let mut same = true;
-    let mut i = 0;
-    while i < a.len() {
-        same = same & (a[i] == b[i]);
-        i += 1;
+    for (i, x) in a.iter().enumerate() {
+        same &= *x == b[i];
     }
     same
 }
@@ -57,11 +53,10 @@ fn eights_same(a: &[u16], b: &[u16]) -> bool
     let last = a.len() - 8;
     let mut i = 0;
     while i < last {
-        if eight_same(a, b, i) {
-            i += 8;
-        } else {
+        if !eight_same(a, b, i) {
             return false;
         }
+        i += 8;
     }
     eight_same(a, b, last)
 }
@@ -73,12 +68,11 @@ fn parts_same(a: &[u16], b: &[u16]) -> bool
 {
     let mut i = 0;
     while i < a.len() {
-        let end = i + smaller(1024, a.len() - i);
-        if all_same(&a[i..end], &b[i..end]) {
-            i = end;
-        } else {
+        let end = a.len().min(i + 1024);
+        if !all_same(&a[i..end], &b[i..end]) {
             return false;
         }
+        i = end;
     }
     true
 }
@@ -87,17 +81,16 @@ fn parts_same(a: &[u16], b: &[u16]) -> bool
 pub fn same_units(a: &[u16], b: &[u16]) -> bool
     ensures { result ≡ equal a.now b.now }
 {
-    if a.len() != b.len() {
-        return false;
+    let n = a.len();
+    if n != b.len() {
+        false
+    } else if n < 4 {
+        all_same(a, b)
+    } else if n < 8 {
+        fours_same(a, b)
+    } else if n < 256 {
+        eights_same(a, b)
+    } else {
+        parts_same(a, b)
     }
-    if a.len() < 4 {
-        return all_same(a, b);
-    }
-    if a.len() < 8 {
-        return fours_same(a, b);
-    }
-    if a.len() < 256 {
-        return eights_same(a, b);
-    }
-    parts_same(a, b)
 }

@@ -12,12 +12,12 @@ loop-i-init c = refl
 pub loop-i-preserved : goal.loop-i-preserved
 loop-i-preserved c =
     let s = c.args in
-    part_agrees s.a.now s.b.now c.loop-i.i 8 c.loop-i.invariant (sym c.eight_same.ensures ∙ c.if-eight_same.true)
+    part_agrees s.a.now s.b.now c.loop-i.i 8 c.loop-i.invariant (sym c.eight_same.ensures ∙ c.if-not-eight_same.false)
 
-pub returns-else-eight_same : goal.returns-else-eight_same
-returns-else-eight_same c =
+pub returns-then-not-eight_same : goal.returns-then-not-eight_same
+returns-then-not-eight_same c =
     let s = c.args in
-    sym (part_differs s.a.now s.b.now c.loop-i.i 8 (sym c.eight_same.ensures ∙ c.if-eight_same.false))
+    sym (part_differs s.a.now s.b.now c.loop-i.i 8 (sym c.eight_same.ensures ∙ c.if-not-eight_same.true))
 
 pub returns : goal.returns
 returns c =

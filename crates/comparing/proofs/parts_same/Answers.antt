@@ -13,18 +13,17 @@ pub loop-i-preserved : goal.loop-i-preserved
 loop-i-preserved c =
     let s = c.args in
     let l = c.loop-i in
-    let m = c.smaller.result in
-    let e : l.i + m - l.i ≡ m = omega arith in
-    let t = rw e at (sym c.all_same.ensures ∙ c.if-all_same.true) in
-    (search rules, part_agrees s.a.now s.b.now l.i m l.invariant.1 t)
+    let m = c.min-end.result - l.i in
+    let t = (sym c.all_same.ensures ∙ c.if-not-all_same.false) in
+    let e : l.i + m ≡ c.min-end.result = omega arith in
+    (search rules, rw e at (part_agrees s.a.now s.b.now l.i m l.invariant.1 t))
 
-pub returns-else-all_same : goal.returns-else-all_same
-returns-else-all_same c =
+pub returns-then-not-all_same : goal.returns-then-not-all_same
+returns-then-not-all_same c =
     let s = c.args in
     let l = c.loop-i in
-    let m = c.smaller.result in
-    let e : l.i + m - l.i ≡ m = omega arith in
-    let t = rw e at (sym c.all_same.ensures ∙ c.if-all_same.false) in
+    let m = c.min-end.result - l.i in
+    let t = (sym c.all_same.ensures ∙ c.if-not-all_same.true) in
     sym (part_differs s.a.now s.b.now l.i m t)
 
 pub returns : goal.returns
