@@ -7,15 +7,15 @@ ghost use Rattle.units.specs.Part.{Named};
 pub fn smaller(a: usize, b: usize) -> usize
     ensures { result ≡ min a b }
 {
-    if a < b { a } else { b }
+    a.min(b)
 }
 
 // The part from a start on, as long as a length. What exceeds the text is cut off, so that no caller has to know that it lies within.
 pub fn part_at(text: &[u16], start: usize, len: usize) -> &[u16]
     ensures { result.now ≡ part text.now start len }
 {
-    let from = smaller(start, text.len());
-    let to = from + smaller(len, text.len() - from);
+    let from = start.min(text.len());
+    let to = from + len.min(text.len() - from);
     &text[from..to]
 }
 

@@ -26,18 +26,16 @@ pub fn place_of(r: Refusal) -> usize
     ensures { result ≡ refusal_place r }
 {
     match r {
-        Refusal::Record(place) => place,
-        Refusal::Length => 0,
-        Refusal::Places => 0,
-        Refusal::Room => 0,
-        Refusal::Nul(place) => place,
-        Refusal::LineBreak(place) => place,
-        Refusal::Script => 0,
-        Refusal::Entry(place) => place,
+        Refusal::Record(place)
+        | Refusal::Nul(place)
+        | Refusal::LineBreak(place)
+        | Refusal::Entry(place) => place,
+        Refusal::Length | Refusal::Places | Refusal::Room | Refusal::Script => 0,
     }
 }
 
 // The refusal of a number and a place, where the number is a refusal's.
+#[tactic(auto, unfolding(laws::specs::Answer::refusal_of))]
 pub fn refusal_of(number: u32, place: usize) -> Refusal
     ensures { result ≡ refusal_of number place }
 {

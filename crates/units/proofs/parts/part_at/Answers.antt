@@ -5,4 +5,4 @@ use Rattle.units.proofs.parts.part_at.Goals as goal
 pub returns : goal.returns
 returns c =
     let a = c.args in
-    clipped a.text.now a.start a.len c.smaller-from.result c.smaller.result c.smaller-from.ensures c.smaller.ensures
+    clipped a.text.now a.start a.len c.min-from.result c.min.result c.min-from.ensures c.min.ensures
