@@ -7,34 +7,21 @@ use crate::limits;
 use rules::{Arg, Refusal};
 use units::{kinds, parts};
 
-// What a record makes of the units so far: so many now, or a refusal.
-#[derive(Clone, Copy)]
-pub enum Progress {
-    On(usize),
-    Stopped(Refusal),
-}
-
-// By its record: 1.
-pub fn judge_record(text: &[u16], units: usize, place: usize, arg: Arg) -> Progress
+// By its record: 1. Else the units so far stay as they are.
+pub fn judge_record(text: &[u16], units: usize, place: usize, arg: Arg) -> Result<usize, Refusal>
     ensures { result ≡ record_judged text.now units place arg }
 {
     if records::is_wrong(text, arg) {
-        return Progress::Stopped(Refusal::Record(place));
+        return Err(Refusal::Record(place));
     }
-    Progress::On(units)
+    Ok(units)
 }
 
 // Whether units hold a line break where none may be: in a regular argument of a batch line.
 fn breaks_line(batch: bool, kind: u32, content: &[u16]) -> bool
     ensures { result ≡ breaks_line batch (record { kind = kind; content = content.now }) }
 {
-    if !batch {
-        return false;
-    }
-    if !kinds::is_regular(kind) {
-        return false;
-    }
-    scans::has_line_break(content)
+    batch && kinds::is_regular(kind) && scans::has_line_break(content)
 }
 
 // The most units that an argument of so many takes in a line, with the space before it.
@@ -46,17 +33,23 @@ fn most_units(batch: bool, units: usize) -> usize
 }
 
 // By its units, 6 before 5: a line break in a regular argument of a batch line, or a NUL. Else the most that the argument can take is counted.
-pub fn judge_units(batch: bool, text: &[u16], units: usize, place: usize, arg: Arg) -> Progress
+pub fn judge_units(
+    batch: bool,
+    text: &[u16],
+    units: usize,
+    place: usize,
+    arg: Arg,
+) -> Result<usize, Refusal>
     ensures { result ≡ units_judged batch units place (argument_of text.now arg) }
 {
     let content = parts::part_of(text, arg.start, arg.len);
     let breaks = breaks_line(batch, arg.kind, content);
     let nul = scans::has_nul(content);
     if breaks {
-        return Progress::Stopped(Refusal::LineBreak(place));
+        return Err(Refusal::LineBreak(place));
     }
     if nul {
-        return Progress::Stopped(Refusal::Nul(place));
+        return Err(Refusal::Nul(place));
     }
-    Progress::On(limits::count_on(units, most_units(batch, content.len())))
+    Ok(limits::count_on(units, most_units(batch, content.len())))
 }

@@ -5,6 +5,7 @@ use mathlib.Core.Path.{◌≡◌, refl, sym, ap, ◌∙◌}
 use mathlib.Core.Bool.{Bool, true, false}
 use mathlib.Core.List.{List, [], ◌++◌, append-nil}
 use mathlib.Core.Logic.{◌⊎◌, inl, inr}
+use Rattle.std.specs.Prelude.{Ok}
 use lib.Dec.{leb}
 use lib.ListN.{length, take, drop}
 use lib.Seq.{sets, take_all, drop-length}
@@ -13,7 +14,6 @@ use Rattle.rules.specs.declared.Arg.{Arg}
 use Rattle.rules.specs.Choice.{pick}
 use Rattle.rules.specs.Record.{argument_of}
 use Rattle.laws.specs.Store.{sets_out}
-use Rattle.adding.specs.declared.judging.Progress.TheVariants.{On}
 use Rattle.adding.specs.Added.{stored, Added, piece}
 use Rattle.building.specs.declared.works.Pass.{Pass}
 use Rattle.building.specs.declared.works.Pass.TheVariants.{Records, Units, Measure, Write}
@@ -79,7 +79,7 @@ pub form_taken : {text : List ℕ} {a : Arg} {w r : Work} {before part : List �
     → (tag_of P.the_type w.pass ≡ 2) ⊎ (tag_of P.the_type w.pass ≡ 3)
     → n ≡ lent_units w.pass (length before)
     → Added (piece w.style (argument_of text a)) w.units count (take n before) part
-    → r ≡ progressed w (On count)
+    → r ≡ progressed w (Ok count)
     → TakenRecord text a w r before (part ++ drop n before)
 form_taken {text} {a} {w} {r} {before} {part} {n} {count} keys e h p = go w.pass refl keys
   where

@@ -1,14 +1,12 @@
 -- Where building stands before its first turn, from a flat list of records and from a slice of them. Assumes nothing.
-use Rattle.std.specs.Prelude.{ℕ, ◌/◌, ◌≡◌, refl, Bool, List, [], length, drop}
+use Rattle.std.specs.Prelude.{ℕ, ◌/◌, ◌≡◌, refl, Bool, List, [], length, drop, Result, Ok, Err, ⊤}
 use Rattle.std.proofs.Common.{arith, sym, ◌∙◌, drop_of_length-le}
 use Rattle.rules.specs.declared.Arg.{Arg}
-use Rattle.rules.specs.declared.Refusal.TheVariants as Refusal
+use Rattle.rules.specs.declared.Refusal.{Refusal}
 use Rattle.rules.specs.Outcome.{fault_from}
 use Rattle.rules.specs.Record.{argument_finding, argument_fault, flat_of}
 use Rattle.rules.specs.Building.{either_line}
-use Rattle.laws.specs.Answer.{refusal_of}
-use Rattle.records.specs.declared.Verdict.{Verdict}
-use Rattle.records.specs.declared.Verdict.TheVariants.{Sound, Wrong}
+use Rattle.laws.specs.Answer.{refusal_back, some_number}
 use Rattle.records.specs.Records.{records_of, verdict_fault}
 use Rattle.records.specs.Flat.{whole_count, flat_records, flat_back, faults_whole}
 use Rattle.building.specs.Line.{line_outcome}
@@ -17,18 +15,18 @@ use Rattle.building.specs.Both.{either_is}
 use Rattle.building.specs.Turns.{Stands, refused_here}
 
 -- the records are judged already
-pub stands_judged : (batch force : Bool) (lent records text out : List ℕ) (v : Verdict) → verdict_fault v ≡ argument_fault text records
+pub stands_judged : (batch force : Bool) (lent records text out : List ℕ) (v : Result ⊤ Refusal) → verdict_fault v ≡ argument_fault text records
     → Stands (either_line batch force lent records text (length out)) lent text (records_of records) out (begun batch force (length records / 3) v) out
-unfolding line_outcome fault_from refusal_of
-stands_judged batch force lent records text out Sound e =
+unfolding line_outcome fault_from
+stands_judged batch force lent records text out (Ok _) e =
     let is = either_is batch force lent records text (length out) in
     let n = whole_count records in
     let none : drop (length records / 3) (records_of records) ≡ [] = drop_of_length-le (records_of records) {i = length records / 3} (omega arith) in
     record { counts = sym n; within = omega arith; due = record { owes = rw none (is ∙ rw (← e)); kept = refl } }
-stands_judged batch force lent records text out (Wrong place) e =
+stands_judged batch force lent records text out (Err r) e =
     let is = either_is batch force lent records text (length out) in
     let n = whole_count records in
-    record { counts = sym n; within = omega arith; due = refused_here _ lent text (records_of records) out (Refusal.Record place) refl (is ∙ rw (← e)) refl }
+    record { counts = sym n; within = omega arith; due = rw (some_number r, refusal_back r) (refused_here _ lent text (records_of records) out r refl (is ∙ rw (← e)) refl) }
 
 -- the records are given as they are
 pub stands_begun : (batch force : Bool) (lent : List ℕ) (args : List Arg) (text out : List ℕ)

@@ -4,7 +4,7 @@ use Rattle.std.proofs.Common.{add-zero, lt_of_not-le, add-one, arith, ◌∙◌,
 use Rattle.std.proofs.Math.Nat.{zero-add}
 use Rattle.std.proofs.Math.Decide.{dec_le}
 use borrow.Author.Tests.{lt-ltb, le-ltb, lt-leb, leb-true}
-use Rattle.std.specs.Prelude.{◌≡◌, Bool, leb, get_or, drop}
+use Rattle.std.specs.Prelude.{◌≡◌, Bool, leb, get_or, drop, Result, Ok, Err}
 use Rattle.std.proofs.Math.Path.{refl, sym}
 use Rattle.std.proofs.Math.Bool.{true, false}
 use mathlib.Core.List.{List, [], ◌∷◌, ◌++◌, map, append_assoc}
@@ -24,8 +24,6 @@ use Rattle.laws.specs.Placed.{Left, less_left}
 use Rattle.names.specs.Name.{name_of, head_of}
 use Rattle.records.specs.Records.{is_wrong, no_arg}
 use Rattle.adding.specs.declared.styles.Style.{Style}
-use Rattle.adding.specs.declared.judging.Progress.{Progress}
-use Rattle.adding.specs.declared.judging.Progress.TheVariants.{On, Stopped}
 use Rattle.adding.specs.Limits.{limit_of, count_cap, counted, cap_covers}
 use Rattle.adding.specs.Judged.{breaks_line, most_units}
 use Rattle.adding.specs.Added.{stored, piece}
@@ -100,9 +98,9 @@ module _ (o : Outcome (List ℕ)) (lent text : List ℕ) (all : List Arg) (first
   -- ---- a record
 
   -- what a record makes of what is owed: it goes on, or it is answered
-  data Going (pass : Pass) (s : Style) (place : ℕ) (rest : List Arg) (out : List ℕ) : Progress → Type 0 where
-    on : {units : ℕ} → Owes pass s place rest units out → Going pass s place rest out (On units)
-    over : {r : Refusal} → Answered o (refusal_said r) first out → Going pass s place rest out (Stopped r)
+  data Going (pass : Pass) (s : Style) (place : ℕ) (rest : List Arg) (out : List ℕ) : Result ℕ Refusal → Type 0 where
+    on : {units : ℕ} → Owes pass s place rest units out → Going pass s place rest out (Ok units)
+    over : {r : Refusal} → Answered o (refusal_said r) first out → Going pass s place rest out (Err r)
 
   module _ (s : Style) (place : ℕ) (a : Arg) (rest : List Arg) (units : ℕ) (out : List ℕ) where
     -- 1
@@ -111,7 +109,7 @@ module _ (o : Outcome (List ℕ)) (lent text : List ℕ) (all : List Arg) (first
     record_goes h = go (is_wrong text a) h.owes
       where
         go : (b : Bool) → o ≡ unless (fault_at place (wrong_if 1 b sound) (fault_from (argument_finding text) (place + 1) rest)) (line_named s lent (args_of all) (length first))
-            → Going Records s (place + 1) rest out (pick b (Stopped (Refusal.Record place)) (On units))
+            → Going Records s (place + 1) rest out (pick b (Err (Refusal.Record place)) (Ok units))
         go true e = over (refused_here (Refusal.Record place) refl e h.kept)
         go false e = on (record { owes = e; kept = h.kept })
 
@@ -128,7 +126,7 @@ module _ (o : Outcome (List ℕ)) (lent text : List ℕ) (all : List Arg) (first
 
         go : (b c : Bool)
             → o ≡ unless (fault_at place (wrong_if 6 b (wrong_if 5 c sound)) (fault_from (units_finding s.batch) (place + 1) (args_of rest))) (line_limited s lent (args_of all) (length first))
-            → Going Units s (place + 1) rest out (pick b (Stopped (Refusal.LineBreak place)) (pick c (Stopped (Refusal.Nul place)) (On (counted units most))))
+            → Going Units s (place + 1) rest out (pick b (Err (Refusal.LineBreak place)) (pick c (Err (Refusal.Nul place)) (Ok (counted units most))))
         go true c e = over (refused_here (Refusal.LineBreak place) refl e h.kept)
         go false true e = over (refused_here (Refusal.Nul place) refl e h.kept)
         go false false e = on (record { owes = e; covers = covers; kept = h.kept })
@@ -206,7 +204,7 @@ module _ (o : Outcome (List ℕ)) (lent text : List ℕ) (all : List Arg) (first
       let left : drop w.at all ≡ a ∷ drop (w.at + 1) all = rw (e, add-one w.at) (drop-cons all w.at no_arg l) in
       go (goes w.pass w.style (w.at + 1) a (drop (w.at + 1) all) w.units out (rw left at h))
     where
-      go : {p : Progress} {out' : List ℕ} → Going w.pass w.style (w.at + 1 + 1) (drop (w.at + 1) all) out' p → Nearer w.pass w.at (progressed w p) out'
+      go : {p : Result ℕ Refusal} {out' : List ℕ} → Going w.pass w.style (w.at + 1 + 1) (drop (w.at + 1) all) out' p → Nearer w.pass w.at (progressed w p) out'
       go (on h') = (record { counts = counts; within = omega (arith, l); due = h' }, take_less w.pass (length all) w.at l)
       go (over {r} h') = (record { counts = counts; within = omega (arith, l); due = rw (some_number r, refusal_back r) h' }, take_some w.pass (length all) w.at (omega (arith, l)))
 

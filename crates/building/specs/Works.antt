@@ -1,5 +1,5 @@
 -- Building a line as a state and its turns: the records of each pass, and the stage behind it. Assumes nothing.
-use Rattle.std.specs.Prelude.{ℕ, ◌+◌, ◌≡◌, Bool, true, false, List, eqb, leb, ltb, length, Result, Ok, Err}
+use Rattle.std.specs.Prelude.{ℕ, ◌+◌, ◌≡◌, Bool, true, false, List, eqb, leb, ltb, length, Result, Ok, Err, ⊤}
 use Rattle.std.proofs.lemmas.List.Edits.{sets}
 use Rattle.rules.specs.declared.Arg.{Arg}
 use Rattle.rules.specs.declared.Refusal.{Refusal}
@@ -10,10 +10,6 @@ use Rattle.rules.specs.Unit.{is_nul}
 use Rattle.rules.specs.Building.{is_no_script}
 use Rattle.laws.specs.Answer.{refusal_of}
 use Rattle.names.specs.Name.{name_of, head_of}
-use Rattle.records.specs.declared.Verdict.{Verdict}
-use Rattle.records.specs.declared.Verdict.TheVariants.{Sound, Wrong}
-use Rattle.adding.specs.declared.judging.Progress.{Progress}
-use Rattle.adding.specs.declared.judging.Progress.TheVariants.{On, Stopped}
 use Rattle.adding.specs.Limits.{limit_of, counted}
 use Rattle.building.specs.declared.works.Pass.{Pass}
 use Rattle.building.specs.declared.works.Pass.TheVariants.{Records, Units, Measure, Write}
@@ -41,14 +37,14 @@ abbrev pub finished : Work → ℕ → Work
 finished w units = record { count = w.count; units = units; at = w.at; place = 0; number = 0; style = w.style; pass = w.pass; going = false }
 
 -- at the next record, or refused
-abbrev pub progressed : Work → Progress → Work
-progressed w (On units) = record { count = w.count; units = units; at = w.at + 1; place = 0; number = 0; style = w.style; pass = w.pass; going = true }
-progressed w (Stopped r) = stopped w r
+abbrev pub progressed : Work → Result ℕ Refusal → Work
+progressed w (Ok units) = record { count = w.count; units = units; at = w.at + 1; place = 0; number = 0; style = w.style; pass = w.pass; going = true }
+progressed w (Err r) = stopped w r
 
 -- behind the record pass, where the records are judged already
-abbrev pub begun : Bool → Bool → ℕ → Verdict → Work
-begun batch force count Sound = begun_at batch force count count
-begun batch force count (Wrong place) = stopped (begun_at batch force count count) (Refusal.Record place)
+abbrev pub begun : Bool → Bool → ℕ → Result ⊤ Refusal → Work
+begun batch force count (Ok _) = begun_at batch force count count
+begun batch force count (Err r) = stopped (begun_at batch force count count) r
 
 -- the answer of a state that does not go on
 abbrev pub answer_of : Work → Result Line Refusal

@@ -19,8 +19,8 @@ pub fn build(
     ensures { Answered (either_line batch force_quotes lent.now records.now text.now (length out.old)) (built_said result) out.old out.new }
 {
     let classes = classes::classes();
-    let verdict = records::first_fault(text, records);
-    let mut work = works::begin_judged(batch, force_quotes, records.len() / 3, verdict);
+    let judged = records::first_fault(text, records);
+    let mut work = works::begin_judged(batch, force_quotes, records.len() / 3, judged);
     while work.going {
         let arg = records::record_at(records, work.at);
         work = turns::turn(work, arg, &classes, lent, text, out);

@@ -6,7 +6,6 @@ ghost use Rattle.building.specs.Works.{TakenRecord, Closed, Turned};
 
 use crate::works::{Pass, Work};
 use crate::{stages, works};
-use adding::judging::Progress;
 use adding::{judging, writing};
 use rules::Arg;
 
@@ -40,7 +39,7 @@ fn take(work: Work, arg: Arg, classes: &[u8; 256], text: &[u16], out: &mut [u16]
         Pass::Measure | Pass::Write => {
             let end = lent_units(pass, out.len());
             let counted = writing::add_argument(classes, &mut out[..end], units, text, arg, style);
-            works::go_on(work, Progress::On(counted))
+            works::go_on(work, Ok(counted))
         }
     }
 }

@@ -2,9 +2,7 @@
 ghost use Rattle.std.specs.Prelude.{◌≡◌, ◌<◌};
 ghost use Rattle.building.specs.Works.{begun, begun_at, entered, stopped, finished, progressed, answer_of};
 
-use adding::judging::Progress;
 use adding::styles::Style;
-use records::Verdict;
 use rules::{Line, Refusal};
 use units::refusals;
 
@@ -55,13 +53,18 @@ pub fn begin(batch: bool, force: bool, count: usize) -> Work
 }
 
 // Behind the first pass, where the records are judged already.
-pub(crate) fn begin_judged(batch: bool, force: bool, count: usize, verdict: Verdict) -> Work
-    ensures { result ≡ begun batch force count verdict }
+pub(crate) fn begin_judged(
+    batch: bool,
+    force: bool,
+    count: usize,
+    judged: Result<(), Refusal>,
+) -> Work
+    ensures { result ≡ begun batch force count judged }
 {
     let work = begin_at(batch, force, count, count);
-    match verdict {
-        Verdict::Sound => work,
-        Verdict::Wrong(place) => stop(work, Refusal::Record(place)),
+    match judged {
+        Ok(()) => work,
+        Err(refusal) => stop(work, refusal),
     }
 }
 
@@ -119,14 +122,14 @@ pub(crate) fn finish(work: Work, units: usize) -> Work
 }
 
 // To the next record of the pass, or no further.
-pub(crate) fn go_on(work: Work, progress: Progress) -> Work
+pub(crate) fn go_on(work: Work, progress: Result<usize, Refusal>) -> Work
     requires { work.at < work.count }
     ensures { result ≡ progressed work progress }
 {
     let style = work.style;
     let pass = work.pass;
     match progress {
-        Progress::On(units) => Work {
+        Ok(units) => Work {
             count: work.count,
             units,
             at: work.at + 1,
@@ -136,7 +139,7 @@ pub(crate) fn go_on(work: Work, progress: Progress) -> Work
             pass,
             going: true,
         },
-        Progress::Stopped(refusal) => stop(work, refusal),
+        Err(refusal) => stop(work, refusal),
     }
 }
 

@@ -1,11 +1,11 @@
 -- The whole records of a flat list, and the first record at fault. Assumes nothing.
-use Rattle.std.specs.Prelude.{ℕ, Bool, List}
+use Rattle.std.specs.Prelude.{ℕ, Bool, List, Result, Ok, Err, ⊤}
 use Rattle.rules.specs.declared.Arg.{Arg}
+use Rattle.rules.specs.declared.Refusal.{Refusal}
+use Rattle.rules.specs.Answer.{refusal_number, refusal_place}
 use Rattle.rules.specs.Choice.{either}
 use Rattle.rules.specs.Outcome.{Fault, faultless, fault}
 use Rattle.rules.specs.Record.{is_no_kind, exceeds, argument_records, wholes}
-use Rattle.records.specs.declared.Verdict.{Verdict}
-use Rattle.records.specs.declared.Verdict.TheVariants.{Sound, Wrong}
 
 -- the whole records of a flat list
 unfoldable pub records_of : List ℕ → List Arg
@@ -21,6 +21,6 @@ abbrev pub is_wrong : List ℕ → Arg → Bool
 is_wrong text a = either (is_no_kind a.kind) (exceeds text a.start a.len)
 
 -- the fault that a verdict says
-abbrev pub verdict_fault : Verdict → Fault
-verdict_fault Sound = faultless
-verdict_fault (Wrong place) = fault 1 place
+abbrev pub verdict_fault : Result ⊤ Refusal → Fault
+verdict_fault (Ok _) = faultless
+verdict_fault (Err r) = fault (refusal_number r) (refusal_place r)

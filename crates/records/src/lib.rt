@@ -5,24 +5,14 @@ ghost use Rattle.std.specs.Prelude.{◌≡◌, get_or};
 ghost use Rattle.rules.specs.Record.{argument_fault};
 ghost use Rattle.records.specs.Records.{is_wrong, records_of, no_arg, verdict_fault};
 
-use rules::Arg;
+use rules::{Arg, Refusal};
 use units::kinds;
-
-// What is found of a list of records: all are sound, or the place of the first that is wrong by 1.
-#[derive(Clone, Copy)]
-pub enum Verdict {
-    Sound,
-    Wrong(usize),
-}
 
 // 1: a kind that is none, or a part that exceeds the text. Start and length are widened first, so their sum cannot wrap.
 pub fn is_wrong(text: &[u16], arg: Arg) -> bool
     ensures { result ≡ is_wrong text.now arg }
 {
-    if kinds::is_no_kind(arg.kind) {
-        return true;
-    }
-    text.len() < arg.start as usize + arg.len as usize
+    kinds::is_no_kind(arg.kind) || text.len() < arg.start as usize + arg.len as usize
 }
 
 // The record of an index, or one of zeros where the list has none.
@@ -45,19 +35,17 @@ pub fn record_at(records: &[u32], index: usize) -> Arg
 }
 
 // 1 over all records, lowest index first. A list that ends inside a record is wrong at the place behind the whole ones.
-pub fn first_fault(text: &[u16], records: &[u32]) -> Verdict
+pub fn first_fault(text: &[u16], records: &[u32]) -> Result<(), Refusal>
     ensures { verdict_fault result ≡ argument_fault text.now records.now }
 {
     let whole = records.len() / 3;
-    let mut i = 0;
-    while i < whole {
+    for i in 0..whole {
         if is_wrong(text, record_at(records, i)) {
-            return Verdict::Wrong(i + 1);
+            return Err(Refusal::Record(i + 1));
         }
-        i += 1;
     }
     if whole * 3 < records.len() {
-        return Verdict::Wrong(whole + 1);
+        return Err(Refusal::Record(whole + 1));
     }
-    Verdict::Sound
+    Ok(())
 }

@@ -8,7 +8,7 @@ use Rattle.building.proofs.lines.build.Goals as goal
 pub loop-work-init : goal.loop-work-init
 loop-work-init c =
     let a = c.args in
-    let s = stands_judged a.batch a.force_quotes a.lent.now a.records.now a.text.now a.out.now c.first_fault-verdict.result c.first_fault-verdict.ensures in
+    let s = stands_judged a.batch a.force_quotes a.lent.now a.records.now a.text.now a.out.now c.first_fault-judged.result c.first_fault-judged.ensures in
     (rw c.begin_judged-work.ensures s, refl)
 
 pub loop-work-smaller : goal.loop-work-smaller

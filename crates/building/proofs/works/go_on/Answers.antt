@@ -1,8 +1,8 @@
 -- `building::works::go_on` meets its contract. Assumes nothing.
 use Rattle.building.proofs.works.go_on.Goals as goal
 
-pub returns-in-On : goal.returns-in-On
-returns-in-On c = rw c.in-On.is
+pub returns-in-Ok : goal.returns-in-Ok
+returns-in-Ok c = rw c.in-Ok.is
 
-pub returns-in-Stopped : goal.returns-in-Stopped
-returns-in-Stopped c = rw c.in-Stopped.is c.stop.ensures
+pub returns-in-Err : goal.returns-in-Err
+returns-in-Err c = rw c.in-Err.is c.stop.ensures
