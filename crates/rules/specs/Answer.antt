@@ -73,25 +73,26 @@ refusal_place (Refusal.Entry place) = place
 abbrev pub refusal_said : Refusal → Said
 refusal_said r = refusal (refusal_number r) (refusal_place r)
 
+-- what an entry point's answer says, by what its result does: a refusal says the same of all
+abbrev pub answer_said : {T : Type 0} → (T → Said) → Result T Refusal → Said
+answer_said says (Ok answer) = says answer
+answer_said says (Err r) = refusal_said r
+
 -- the answer of a builder of lines
 abbrev pub built_said : Result Line Refusal → Said
-built_said (Ok line) = wrote line.units
-built_said (Err r) = refusal_said r
+built_said = answer_said (λ line. wrote line.units)
 
 -- the answer of an entry point that merely writes units
 abbrev pub filled_said : Result ℕ Refusal → Said
-filled_said (Ok units) = wrote units
-filled_said (Err r) = refusal_said r
+filled_said = answer_said wrote
 
 -- the answer of the reader
 abbrev pub parsed_said : Result Arguments Refusal → Said
-parsed_said (Ok arguments) = gave arguments.count arguments.units
-parsed_said (Err r) = refusal_said r
+parsed_said = answer_said (λ arguments. gave arguments.count arguments.units)
 
 -- the answer of the block reader
 abbrev pub listed_said : Result Entries Refusal → Said
-listed_said (Ok entries) = gave entries.count entries.units
-listed_said (Err r) = refusal_said r
+listed_said = answer_said (λ entries. gave entries.count entries.units)
 
 -- ---- contracts
 
