@@ -16,7 +16,7 @@ ghost use Rattle.rules.specs.Key.{launch};
 ghost use Rattle.rules.specs.Store.{Empties};
 ghost use Rattle.aslapush.specs.Export.{forces, Wrote, Gave, Tabulated, start_and_length, as_number, LookupTold, StoreTold};
 
-use answers::{tell_built, tell_cached, tell_filled, tell_listed, tell_parsed};
+use answers::{tell, tell_cached};
 use cache::WORDS;
 
 // Reads a line into texts and spans. Returns the refusal's number, 0 for an answer.
@@ -31,7 +31,7 @@ pub extern "C" fn aslapush_parse_lp_cmd_line(
     ensures { Gave (reading exe_name.now units.now (length text.old) (length spans.old)) result answer.new text.old text.new spans.old spans.new }
 {
     let parsed = reading::parse_lp_cmd_line(units, exe_name, text, spans);
-    tell_parsed(parsed, answer)
+    tell(parsed, answer)
 }
 
 // Builds an ordinary line. Any number but 0 forces quotes. Returns the refusal's number, 0 for an answer.
@@ -47,7 +47,7 @@ pub extern "C" fn aslapush_make_command_line(
     ensures { Wrote (command_line (forces force_quotes) program.now records.now text.now (length out.old)) result answer.new out.old out.new }
 {
     let built = building::make_command_line(program, records, text, force_quotes != 0, out);
-    tell_built(built, answer)
+    tell(built, answer)
 }
 
 // Builds a batch line. Any number but 0 forces quotes. Returns the refusal's number, 0 for an answer.
@@ -63,7 +63,7 @@ pub extern "C" fn aslapush_make_bat_command_line(
     ensures { Wrote (batch_command_line (forces force_quotes) script.now records.now text.now (length out.old)) result answer.new out.old out.new }
 {
     let built = building::make_bat_command_line(script, records, text, force_quotes != 0, out);
-    tell_built(built, answer)
+    tell(built, answer)
 }
 
 // Builds an environment block. Returns the refusal's number, 0 for an answer.
@@ -77,7 +77,7 @@ pub extern "C" fn aslapush_make_envp(
     ensures { Wrote (environment_block records.now text.now (length out.old)) result answer.new out.old out.new }
 {
     let filled = blocks::make_envp(records, text, out);
-    tell_filled(filled, answer)
+    tell(filled, answer)
 }
 
 // Lists the entries of an environment block. Returns the refusal's number, 0 for an answer.
@@ -86,7 +86,7 @@ pub extern "C" fn aslapush_read_envp(block: &[u16], spans: &mut [u32], answer: &
     ensures { Tabulated (block_reading block.now (length spans.old)) result answer.new spans.old spans.new }
 {
     let listed = entries::read_envp(block, spans);
-    tell_listed(listed, answer)
+    tell(listed, answer)
 }
 
 // Writes the text of a child status. Returns the refusal's number, 0 for an answer.
@@ -95,7 +95,7 @@ pub extern "C" fn aslapush_status_text(status: u32, out: &mut [u16], answer: &mu
     ensures { Wrote (status_outcome status (length out.old)) result answer.new out.old out.new }
 {
     let filled = status::status_text(status, out);
-    tell_filled(filled, answer)
+    tell(filled, answer)
 }
 
 // The signed code of a child status.

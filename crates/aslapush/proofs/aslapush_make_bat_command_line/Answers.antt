@@ -3,4 +3,4 @@ use Rattle.aslapush.proofs.Telling.{told_written}
 use Rattle.aslapush.proofs.aslapush_make_bat_command_line.Goals as goal
 
 pub returns : goal.returns
-returns c = told_written c.make_bat_command_line-built.ensures c.tell_built.ensures
+returns c = told_written c.make_bat_command_line-built.ensures c.tell.ensures

@@ -3,4 +3,4 @@ use Rattle.aslapush.proofs.Telling.{told_parsed}
 use Rattle.aslapush.proofs.aslapush_parse_lp_cmd_line.Goals as goal
 
 pub returns : goal.returns
-returns c = told_parsed c.parse_lp_cmd_line-parsed.ensures c.tell_parsed.ensures
+returns c = told_parsed c.parse_lp_cmd_line-parsed.ensures c.tell.ensures
