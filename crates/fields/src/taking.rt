@@ -7,7 +7,7 @@ use forms::numbers::{Number, number_of};
 use forms::texts::{Filling, take_text};
 
 // How many units and how many numbers are held.
-#[derive(Clone, Copy)]
+#[derive(Clone, Copy, Debug, PartialEq, Eq)]
 pub struct Held {
     pub units: usize,
     pub count: usize,

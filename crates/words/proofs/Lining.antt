@@ -12,6 +12,7 @@ use lib.Dec.{eqb, leb, ltb}
 use lib.ListN.{length, get_or, take, drop, length-drop, length-take, drop_of_length-le}
 use lib.Seq.{drop-cons, drop-drop}
 use borrow.Author.Tests.{le-leb, lt-leb, lt-ltb, le-ltb}
+use Rattle.std.specs.Prelude.{Some, None}
 use Rattle.rules.specs.Choice.{pick, flip, equal}
 use Rattle.rules.specs.Record.{part}
 use Rattle.laws.specs.Store.{part_is}
@@ -23,7 +24,6 @@ use Rattle.words.specs.Shape.{shape_at, shape_on}
 use Rattle.words.specs.Line.{words_by, none, verb_in, letters_in, row_of, line_on, Ends, Took, Lined}
 use Rattle.fields.specs.declared.taking.Held.{Held}
 use Rattle.fields.specs.declared.taking.Holding.TheVariants as Holding
-use Rattle.words.specs.declared.lines.Line.TheVariants as Line
 
 -- ---- where a word ends
 
@@ -189,23 +189,23 @@ words_are line end e = let z : end - 0 ≡ end = omega arith in rw (le-leb 0 (le
 
 module _ (rows : List (List ℕ)) (line : List ℕ) (longest : ℕ) {text numbers : List ℕ} where
   -- one that is too long
-  pub long_line : longest < length line → Lined (pick (ltb longest (length line)) ill (line_on rows line)) Line.Bad text numbers
+  pub long_line : longest < length line → Lined (pick (ltb longest (length line)) ill (line_on rows line)) None text numbers
   long_line h = record { says = rw (lt-ltb longest (length line) h); within = tt }
 
   module _ {end row : ℕ} (l : length line ≤ longest) (e : Ends line 0 end) (r : row ≡ row_of rows (take end line)) where
     -- one whose verb no row has
-    pub no_row : length rows ≤ row → Lined (pick (ltb longest (length line)) ill (line_on rows line)) Line.Bad text numbers
+    pub no_row : length rows ≤ row → Lined (pick (ltb longest (length line)) ill (line_on rows line)) None text numbers
     unfolding line_on
     no_row h = record { says = rw (le-ltb longest (length line) l, words_are line end e, ← r, le-ltb row (length rows) h); within = tt }
 
     module _ {letters : List ℕ} (h : row < length rows) (a : letters ≡ letters_in (get_or rows row [])) where
       -- one whose words are not in their forms
-      pub ill_line : Took (words_by letters 0 none (words_at line (end + 1))) Holding.Ill text numbers → Lined (pick (ltb longest (length line)) ill (line_on rows line)) Line.Bad text numbers
+      pub ill_line : Took (words_by letters 0 none (words_at line (end + 1))) Holding.Ill text numbers → Lined (pick (ltb longest (length line)) ill (line_on rows line)) None text numbers
       unfolding line_on
       ill_line w = record { says = rw (le-ltb longest (length line) l, words_are line end e, ← r, lt-ltb row (length rows) h, ← a, ← w.says); within = tt }
 
       -- one whose words are
       pub line_by : {k : Held} → Took (words_by letters 0 none (words_at line (end + 1))) (Holding.Is k) text numbers
-          → Lined (pick (ltb longest (length line)) ill (line_on rows line)) (Line.By row k) text numbers
+          → Lined (pick (ltb longest (length line)) ill (line_on rows line)) (Some (record { row = row; held = k })) text numbers
       unfolding line_on
       line_by w = record { says = rw (le-ltb longest (length line) l, words_are line end e, ← r, lt-ltb row (length rows) h, ← a, ← w.says); within = w.within }

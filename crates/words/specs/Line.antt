@@ -1,5 +1,5 @@
 -- A line, taken apart by the row of a table that has its verb. Assumes nothing.
-use Rattle.std.specs.Prelude.{ℕ, suc, ◌+◌, ◌-◌, ◌≤◌, ◌<◌, min, ◌≡◌, List, [], ◌∷◌, ltb, length, get_or}
+use Rattle.std.specs.Prelude.{ℕ, suc, ◌+◌, ◌-◌, ◌≤◌, ◌<◌, min, ◌≡◌, List, [], ◌∷◌, ltb, length, get_or, Option, Some, None}
 use Rattle.rules.specs.Choice.{pick, equal}
 use Rattle.rules.specs.Record.{part}
 use Rattle.forms.specs.Text.{Taken, taken, ill}
@@ -91,16 +91,16 @@ pub record Took (t : Taken Flat) (r : Holding) (text numbers : List ℕ) : Type 
   pub within : holds_in r (length text) (length numbers)
 
 -- what an answer says of a line
-abbrev pub line_said : Line → List ℕ → List ℕ → Taken Asked
-line_said (Line.By row h) text numbers = asked row (held_in h text numbers)
-line_said Line.Bad text numbers = ill
+abbrev pub line_said : Option Line → List ℕ → List ℕ → Taken Asked
+line_said (Some line) text numbers = asked line.row (held_in line.held text numbers)
+line_said None text numbers = ill
 
 -- what is held of a line lies within what is lent
-abbrev pub line_in : Line → ℕ → ℕ → Type 0
-line_in (Line.By row h) text numbers = (h.units ≤ text) × (h.count ≤ numbers)
-line_in Line.Bad text numbers = Unit {0}
+abbrev pub line_in : Option Line → ℕ → ℕ → Type 0
+line_in (Some line) text numbers = (line.held.units ≤ text) × (line.held.count ≤ numbers)
+line_in None text numbers = Unit {0}
 
 -- the line is held in front of the lent text and table
-pub record Lined (t : Taken Asked) (r : Line) (text numbers : List ℕ) : Type 0 where
+pub record Lined (t : Taken Asked) (r : Option Line) (text numbers : List ℕ) : Type 0 where
   pub says : line_said r text numbers ≡ t
   pub within : line_in r (length text) (length numbers)

@@ -14,11 +14,11 @@ use units::parts::smaller;
 // The most bytes of a line.
 const LONGEST: usize = 400000;
 
-// What a line is: words by the row with this index, or none.
-#[derive(Clone, Copy)]
-pub enum Line {
-    By(usize, Held),
-    Bad,
+// A line that was taken: the index of its row, and what its words hold.
+#[derive(Clone, Copy, Debug, PartialEq, Eq)]
+pub struct Line {
+    pub row: usize,
+    pub held: Held,
 }
 
 // Where the word that starts at an index ends.
@@ -65,21 +65,26 @@ fn take_words(
 }
 
 // A whole line. One that is longer than what is lent, or than any line may be, is bad.
-pub fn take_line(rows: &[[u8; 20]], line: &[u8], text: &mut [u16], numbers: &mut [u32]) -> Line
+pub fn take_line(
+    rows: &[[u8; 20]],
+    line: &[u8],
+    text: &mut [u16],
+    numbers: &mut [u32],
+) -> Option<Line>
     ensures { Lined (pick (ltb (longest_in (length text.old) (length numbers.old)) (length line.now)) ill (line_on rows.now line.now)) result text.new numbers.new }
 {
     let longest = smaller(LONGEST, smaller(text.len(), numbers.len()));
     if longest < line.len() {
-        return Line::Bad;
+        return None;
     }
     let end = word_end(line, 0);
     let row = row_of(rows, &line[..end]);
     if rows.len() <= row {
-        return Line::Bad;
+        return None;
     }
     let letters = letters_of(&rows[row]);
     match take_words(line, end + 1, letters, text, numbers) {
-        Holding::Is(h) => Line::By(row, h),
-        Holding::Ill => Line::Bad,
+        Holding::Is(held) => Some(Line { row, held }),
+        Holding::Ill => None,
     }
 }
