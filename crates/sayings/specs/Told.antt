@@ -1,19 +1,21 @@
 -- What is answered, from what an entry point said. Assumes nothing.
-use Rattle.std.specs.Prelude.{ℕ, ◌*◌, min, ◌≡◌, Bool, false, List, [], ◌∷◌, eqb, length}
+use Rattle.std.specs.Prelude.{ℕ, ◌*◌, min, ◌≡◌, Bool, false, List, [], ◌∷◌, eqb, length, Result, Ok, Err}
 use Rattle.std.proofs.lemmas.List.Edits.{sets}
 use Rattle.rules.specs.Choice.{pick}
 use Rattle.rules.specs.Outcome.{Outcome, done, refused, filled}
 use Rattle.rules.specs.Record.{Entry}
-use Rattle.rules.specs.Answer.{Said, Answered, entries_said, outcome_entry_spans}
+use Rattle.rules.specs.declared.Refusal.{Refusal}
+use Rattle.rules.specs.Answer.{Said, Answered, gave, refusal_said, entries_said, outcome_entry_spans}
 use Rattle.rules.specs.Cache.{Served, missed, hit, held, stored}
 use Rattle.replies.specs.declared.answers.Answer.{Answer}
 use Rattle.replies.specs.declared.answers.Manner.{Manner}
 use Rattle.replies.specs.declared.answers.Word.{Word}
-use Rattle.sayings.specs.declared.Saying.{Saying}
+use Rattle.sayings.specs.declared.Counts.{Counts}
 
 -- the same in the document's numbers
-abbrev pub said_in : Saying → Said
-said_in s = record { number = s.number; place = s.place; arguments = s.arguments; units = s.units }
+abbrev pub said_in : Result Counts Refusal → Said
+said_in (Ok counts) = gave counts.arguments counts.units
+said_in (Err r) = refusal_said r
 
 -- a word and so many of two numbers, and the texts of a manner that so many numbers of the span table name
 abbrev pub answer : Word → ℕ → ℕ → ℕ → Manner → ℕ → Answer

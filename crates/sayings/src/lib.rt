@@ -3,10 +3,9 @@
 
 ghost use Rattle.std.specs.Prelude.{◌≡◌, ◌*◌, min};
 ghost use Rattle.std.proofs.lemmas.List.Edits.{sets};
-ghost use Rattle.rules.specs.Answer.{built_said, filled_said, gave, listed_said, parsed_said, refusal_said};
+ghost use Rattle.rules.specs.Answer.{refusal_said};
 ghost use Rattle.rules.specs.Store.{cached_said};
-ghost use Rattle.sayings.specs.Told.{answer as Told·answer, brief as Told·brief};
-ghost use Rattle.sayings.specs.Told.{said_in, numbered, text_told, lent_told, texts_told, counts_told, entries_told, span_of, Serves};
+ghost use Rattle.sayings.specs.Told.{said_in, numbered, brief, refused_told, text_told, lent_told, texts_told, counts_told, entries_told, span_of, Serves};
 
 use replies::answers::{Answer, Manner, Word};
 use rules::{Arguments, Cached, Entries, Line, Refusal};
@@ -14,112 +13,116 @@ use stores::put_number;
 use units::parts::smaller;
 use units::refusals::{number_of, place_of};
 
-// What an entry point said, in numbers: the refusal's, or 0 and the counts.
-#[derive(Clone, Copy)]
-pub struct Saying {
-    pub number: u64,
-    pub place: u64,
-    pub arguments: u64,
-    pub units: u64,
+// What an entry point counted: arguments, or entries of a block, and units.
+#[derive(Clone, Copy, Debug, PartialEq, Eq)]
+pub struct Counts {
+    pub arguments: usize,
+    pub units: usize,
 }
 
-// Why there is no result.
-fn of_refusal(r: Refusal) -> Saying
-    ensures { said_in result ≡ refusal_said r }
-{
-    Saying {
-        number: number_of(r) as u64,
-        place: place_of(r) as u64,
-        arguments: 0,
-        units: 0,
+// Of a builder of lines.
+impl From<Line> for Counts {
+    ghost from_gives = { λ line counts. counts ≡ record { arguments = 0; units = line.units } };
+
+    fn from(line: Line) -> Counts {
+        Counts {
+            arguments: 0,
+            units: line.units,
+        }
     }
 }
 
-// So many arguments, or entries of a block, and so many units.
-fn of_counts(arguments: usize, units: usize) -> Saying
-    ensures { said_in result ≡ gave arguments units }
-{
-    Saying {
-        number: 0,
-        place: 0,
-        arguments: arguments as u64,
-        units: units as u64,
+// Of a writer of units.
+impl From<usize> for Counts {
+    ghost from_gives = { λ units counts. counts ≡ record { arguments = 0; units = units } };
+
+    fn from(units: usize) -> Counts {
+        Counts {
+            arguments: 0,
+            units,
+        }
     }
 }
 
-// What a builder of lines said.
-pub fn of_built(b: Result<Line, Refusal>) -> Saying
-    ensures { said_in result ≡ built_said b }
-{
-    match b {
-        Ok(Line { units }) => of_counts(0, units),
-        Err(r) => of_refusal(r),
+// Of the reader.
+impl From<Arguments> for Counts {
+    ghost from_gives = { λ read counts. counts ≡ record { arguments = read.count; units = read.units } };
+
+    fn from(read: Arguments) -> Counts {
+        Counts {
+            arguments: read.count,
+            units: read.units,
+        }
     }
 }
 
-// What a writer of units said.
-pub fn of_filled(f: Result<usize, Refusal>) -> Saying
-    ensures { said_in result ≡ filled_said f }
-{
-    match f {
-        Ok(units) => of_counts(0, units),
-        Err(r) => of_refusal(r),
+// Of the block reader.
+impl From<Entries> for Counts {
+    ghost from_gives = { λ listed counts. counts ≡ record { arguments = listed.count; units = listed.units } };
+
+    fn from(listed: Entries) -> Counts {
+        Counts {
+            arguments: listed.count,
+            units: listed.units,
+        }
     }
 }
 
-// What the reader said.
-pub fn of_parsed(p: Result<Arguments, Refusal>) -> Saying
-    ensures { said_in result ≡ parsed_said p }
-{
-    match p {
-        Ok(Arguments { count, units }) => of_counts(count, units),
-        Err(r) => of_refusal(r),
-    }
-}
+// What an entry point said.
+pub type Saying = Result<Counts, Refusal>;
 
-// What the block reader said.
-pub fn of_listed(l: Result<Entries, Refusal>) -> Saying
-    ensures { said_in result ≡ listed_said l }
-{
-    match l {
-        Ok(Entries { count, units }) => of_counts(count, units),
-        Err(r) => of_refusal(r),
-    }
-}
-
-// A word, so many of two numbers, and the texts of a manner that so many numbers of the span table name.
-fn answer(word: Word, count: usize, first: u64, second: u64, manner: Manner, spans: usize) -> Answer
-    ensures { result ≡ Told·answer word count first second manner spans }
+// A word alone.
+pub fn said(word: Word) -> Answer
+    ensures { result ≡ brief word 0 0 0 0 }
 {
     Answer {
         word,
-        count,
-        first,
-        second,
-        manner,
-        spans,
+        count: 0,
+        first: 0,
+        second: 0,
+        manner: Manner::Text,
+        spans: 0,
         from: 0,
         to: 0,
         negative: false,
     }
 }
 
-// A word, so many of two numbers, and texts of their own.
-pub fn brief(word: Word, count: usize, first: u64, second: u64, spans: usize) -> Answer
-    ensures { result ≡ Told·brief word count first second spans }
+// `ok` with one number, and the texts that so many numbers of the span table name.
+pub fn with_one(number: usize, spans: usize) -> Answer
+    ensures { result ≡ brief Word.Ok 1 number 0 spans }
 {
-    answer(word, count, first, second, Manner::Text, spans)
+    Answer {
+        count: 1,
+        first: number as u64,
+        spans,
+        ..said(Word::Ok)
+    }
+}
+
+// `refused NUMBER PLACE`, with the texts that so many numbers of the span table name
+fn refused(r: Refusal, spans: usize) -> Answer
+    ensures { result ≡ refused_told (refusal_said r) spans }
+{
+    Answer {
+        count: 2,
+        first: number_of(r) as u64,
+        second: place_of(r) as u64,
+        spans,
+        ..said(Word::Refused)
+    }
 }
 
 // The same answer with the numbers from one place of the table up to another.
 pub fn with_numbers(a: Answer, from: usize, to: usize, negative: bool) -> Answer
     ensures { result ≡ numbered a from to negative }
 {
-    let mut r = a;
-    r.from = from;
-    r.to = to;
-    r.negative = negative;
-    r
+    Answer {
+        from,
+        to,
+        negative,
+        ..a
+    }
 }
 
 // Names so many units from a start on as the table's first text.
@@ -138,73 +141,93 @@ pub fn name_front(spans: &mut [u32], units: usize)
 }
 
 // `ok TEXT`
+#[tactic(auto, using(crate::proofs::Numbers::refusal_numbered), unfolding(crate::specs::Told::text_told))]
 pub fn text_told(s: Saying) -> Answer
     ensures { result ≡ text_told (said_in s) }
 {
-    if s.number == 0 {
-        return brief(Word::Ok, 0, 0, 0, 2);
+    match s {
+        Ok(_) => Answer {
+            spans: 2,
+            ..said(Word::Ok)
+        },
+        Err(r) => refused(r, 0),
     }
-    brief(Word::Refused, 2, s.number, s.place, 0)
 }
 
 // `ok UNITS OUT`, or `refused NUMBER PLACE OUT`
+#[tactic(auto, using(crate::proofs::Numbers::refusal_numbered), unfolding(crate::specs::Told::lent_told))]
 pub fn lent_told(s: Saying) -> Answer
     ensures { result ≡ lent_told (said_in s) }
 {
-    if s.number == 0 {
-        return brief(Word::Ok, 1, s.units, 0, 2);
+    match s {
+        Ok(counts) => with_one(counts.units, 2),
+        Err(r) => refused(r, 2),
     }
-    brief(Word::Refused, 2, s.number, s.place, 2)
 }
 
 // So many places of a table, two for each text.
-fn places_of(texts: u64, places: usize) -> usize
+fn places_of(texts: usize, places: usize) -> usize
     ensures { result ≡ min (texts * 2) places }
 {
-    if ((places / 2) as u64) < texts {
-        return places;
+    if places / 2 < texts {
+        places
+    } else {
+        texts * 2
     }
-    (texts * 2) as usize
 }
 
 // `ok COUNT A0 A1 ..`, by a span table of so many places
+#[tactic(auto, using(crate::proofs::Numbers::refusal_numbered), unfolding(crate::specs::Told::texts_told))]
 pub fn texts_told(s: Saying, places: usize) -> Answer
     ensures { result ≡ texts_told places (said_in s) }
 {
-    if s.number == 0 {
-        return brief(Word::Ok, 1, s.arguments, 0, places_of(s.arguments, places));
+    match s {
+        Ok(counts) => with_one(counts.arguments, places_of(counts.arguments, places)),
+        Err(r) => refused(r, 0),
     }
-    brief(Word::Refused, 2, s.number, s.place, 0)
 }
 
 // `ok COUNT UNITS TEXT`, or `refused NUMBER PLACE TEXT`, where so many numbers of the span table name the text, or none
+#[tactic(auto, using(crate::proofs::Numbers::refusal_numbered), unfolding(crate::specs::Told::counts_told))]
 pub fn counts_told(s: Saying, spans: usize) -> Answer
     ensures { result ≡ counts_told spans (said_in s) }
 {
-    if s.number == 0 {
-        return brief(Word::Ok, 2, s.arguments, s.units, spans);
+    match s {
+        Ok(counts) => Answer {
+            count: 2,
+            second: counts.units as u64,
+            ..with_one(counts.arguments, spans)
+        },
+        Err(r) => refused(r, spans),
     }
-    brief(Word::Refused, 2, s.number, s.place, spans)
 }
 
 // `ok USED KEY:VALUE ..`, by a span table of so many places
+#[tactic(auto, using(crate::proofs::Numbers::refusal_numbered), unfolding(crate::specs::Told::entries_told))]
 pub fn entries_told(s: Saying, places: usize) -> Answer
     ensures { result ≡ entries_told places (said_in s) }
 {
-    if s.number == 0 {
-        let texts = places_of(s.arguments, places) as u64;
-        let named = places_of(texts, places);
-        return answer(Word::Ok, 1, s.units, 0, Manner::Key, named);
+    match s {
+        Ok(counts) => {
+            let texts = places_of(counts.arguments, places);
+            Answer {
+                manner: Manner::Key,
+                ..with_one(counts.units, places_of(texts, places))
+            }
+        }
+        Err(r) => refused(r, 0),
     }
-    brief(Word::Refused, 2, s.number, s.place, 0)
 }
 
 // A word, and the line that stands at a start of the store's units, as the table's first text.
 fn line_told(word: Word, start: usize, units: usize, spans: &mut [u32]) -> Answer
-    ensures { (result ≡ Told·brief word 0 0 0 2) × (spans.new ≡ sets spans.old 0 (span_of start units)) }
+    ensures { (result ≡ brief word 0 0 0 2) × (spans.new ≡ sets spans.old 0 (span_of start units)) }
 {
     name_part(spans, start, units);
-    brief(word, 0, 0, 0, 2)
+    Answer {
+        spans: 2,
+        ..said(word)
+    }
 }
 
 // `hit LINE`, `miss`, `stored LINE` or `held LINE`; the table's first text is the line, a part of the store's units
@@ -212,13 +235,10 @@ pub fn cached_told(c: Result<Cached, Refusal>, spans: &mut [u32]) -> Answer
     ensures { Serves (cached_said c) result spans.old spans.new }
 {
     match c {
-        Ok(Cached::Missed) => brief(Word::Miss, 0, 0, 0, 0),
+        Ok(Cached::Missed) => said(Word::Miss),
         Ok(Cached::Hit { start, units }) => line_told(Word::Hit, start, units, spans),
         Ok(Cached::Held { start, units }) => line_told(Word::Held, start, units, spans),
         Ok(Cached::Stored { start, units }) => line_told(Word::Stored, start, units, spans),
-        Err(r) => {
-            let s = of_refusal(r);
-            brief(Word::Refused, 2, s.number, s.place, 0)
-        }
+        Err(r) => refused(r, 0),
     }
 }

@@ -1,8 +1,0 @@
--- `sayings::of_built` meets its contract. Assumes nothing.
-use Rattle.sayings.proofs.of_built.Goals as goal
-
-pub returns-in-Line : goal.returns-in-Line
-returns-in-Line c = rw c.in-Line.is c.of_counts.ensures
-
-pub returns-in-Refused : goal.returns-in-Refused
-returns-in-Refused c = rw c.in-Refused.is c.of_refusal.ensures

@@ -1,8 +1,0 @@
--- `sayings::of_listed` meets its contract. Assumes nothing.
-use Rattle.sayings.proofs.of_listed.Goals as goal
-
-pub returns-in-Entries : goal.returns-in-Entries
-returns-in-Entries c = rw c.in-Entries.is c.of_counts.ensures
-
-pub returns-in-Refused : goal.returns-in-Refused
-returns-in-Refused c = rw c.in-Refused.is c.of_refusal.ensures
