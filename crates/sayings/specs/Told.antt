@@ -1,21 +1,14 @@
 -- What is answered, from what an entry point said. Assumes nothing.
-use Rattle.std.specs.Prelude.{ℕ, ◌*◌, min, ◌≡◌, Bool, false, List, [], ◌∷◌, eqb, length, Result, Ok, Err}
+use Rattle.std.specs.Prelude.{ℕ, ◌*◌, min, ◌≡◌, Bool, false, List, [], ◌∷◌, eqb, length}
 use Rattle.std.proofs.lemmas.List.Edits.{sets}
 use Rattle.rules.specs.Choice.{pick}
 use Rattle.rules.specs.Outcome.{Outcome, done, refused, filled}
 use Rattle.rules.specs.Record.{Entry}
-use Rattle.rules.specs.declared.Refusal.{Refusal}
-use Rattle.rules.specs.Answer.{Said, Answered, gave, refusal_said, entries_said, outcome_entry_spans}
+use Rattle.rules.specs.Answer.{Said, Answered, entries_said, outcome_entry_spans}
 use Rattle.rules.specs.Cache.{Served, missed, hit, held, stored}
 use Rattle.replies.specs.declared.answers.Answer.{Answer}
 use Rattle.replies.specs.declared.answers.Manner.{Manner}
 use Rattle.replies.specs.declared.answers.Word.{Word}
-use Rattle.sayings.specs.declared.Counts.{Counts}
-
--- the same in the document's numbers
-abbrev pub said_in : Result Counts Refusal → Said
-said_in (Ok counts) = gave counts.arguments counts.units
-said_in (Err r) = refusal_said r
 
 -- a word and so many of two numbers, and the texts of a manner that so many numbers of the span table name
 abbrev pub answer : Word → ℕ → ℕ → ℕ → Manner → ℕ → Answer
@@ -44,9 +37,17 @@ refused_told said spans = brief Word.Refused 2 said.number said.place spans
 abbrev pub or_refused : Said → ℕ → Answer → Answer
 or_refused said spans answer = pick (eqb said.number 0) answer (refused_told said spans)
 
+-- the two numbers of the span table that name so many units from a start on
+abbrev pub span_of : ℕ → ℕ → List ℕ
+span_of start units = min start 4294967295 ∷ min units 4294967295 ∷ []
+
 -- `ok TEXT`
 unfoldable pub text_told : Said → Answer
 text_told said = or_refused said 0 (brief Word.Ok 0 0 0 2)
+
+-- where TEXT stands: in front of the output
+unfoldable pub text_span : Said → List ℕ
+text_span said = pick (eqb said.number 0) (span_of 0 said.units) []
 
 -- `ok UNITS OUT`, or `refused NUMBER PLACE OUT`
 unfoldable pub lent_told : Said → Answer
@@ -63,10 +64,6 @@ counts_told spans said = or_refused said spans (brief Word.Ok 2 said.arguments s
 -- `ok USED KEY:VALUE ..`, by a span table of so many places: four for each entry
 unfoldable pub entries_told : ℕ → Said → Answer
 entries_told places said = or_refused said 0 (answer Word.Ok 1 said.units 0 Manner.Key (min (said.arguments * 4) places))
-
--- the two numbers of the span table that name so many units from a start on
-abbrev pub span_of : ℕ → ℕ → List ℕ
-span_of start units = min start 4294967295 ∷ min units 4294967295 ∷ []
 
 -- `hit LINE`, `miss`, `stored LINE` or `held LINE`
 abbrev pub served_told : Outcome Served → Answer

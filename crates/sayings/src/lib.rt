@@ -3,73 +3,16 @@
 
 ghost use Rattle.std.specs.Prelude.{◌≡◌, ◌*◌, min};
 ghost use Rattle.std.proofs.lemmas.List.Edits.{sets};
-ghost use Rattle.rules.specs.Answer.{refusal_said};
+ghost use Rattle.rules.specs.Answer.{answer_said, refusal_said};
 ghost use Rattle.rules.specs.Store.{cached_said};
-ghost use Rattle.sayings.specs.Told.{said_in, numbered, brief, refused_told, text_told, lent_told, texts_told, counts_told, entries_told, span_of, Serves};
+ghost use Rattle.sayings.specs.Told.{numbered, brief, refused_told, text_told, text_span, lent_told, texts_told, counts_told, entries_told, span_of, Serves};
 
 use replies::answers::{Answer, Manner, Word};
-use rules::{Arguments, Cached, Entries, Line, Refusal};
+use rules::{Cached, Refusal};
 use stores::put_number;
+use units::counts::Counted;
 use units::parts::smaller;
 use units::refusals::{number_of, place_of};
-
-// What an entry point counted: arguments, or entries of a block, and units.
-#[derive(Clone, Copy, Debug, PartialEq, Eq)]
-pub struct Counts {
-    pub arguments: usize,
-    pub units: usize,
-}
-
-// Of a builder of lines.
-impl From<Line> for Counts {
-    ghost from_gives = { λ line counts. counts ≡ record { arguments = 0; units = line.units } };
-
-    fn from(line: Line) -> Counts {
-        Counts {
-            arguments: 0,
-            units: line.units,
-        }
-    }
-}
-
-// Of a writer of units.
-impl From<usize> for Counts {
-    ghost from_gives = { λ units counts. counts ≡ record { arguments = 0; units = units } };
-
-    fn from(units: usize) -> Counts {
-        Counts {
-            arguments: 0,
-            units,
-        }
-    }
-}
-
-// Of the reader.
-impl From<Arguments> for Counts {
-    ghost from_gives = { λ read counts. counts ≡ record { arguments = read.count; units = read.units } };
-
-    fn from(read: Arguments) -> Counts {
-        Counts {
-            arguments: read.count,
-            units: read.units,
-        }
-    }
-}
-
-// Of the block reader.
-impl From<Entries> for Counts {
-    ghost from_gives = { λ listed counts. counts ≡ record { arguments = listed.count; units = listed.units } };
-
-    fn from(listed: Entries) -> Counts {
-        Counts {
-            arguments: listed.count,
-            units: listed.units,
-        }
-    }
-}
-
-// What an entry point said.
-pub type Saying = Result<Counts, Refusal>;
 
 // A word alone.
 pub fn said(word: Word) -> Answer
@@ -140,27 +83,30 @@ pub fn name_front(spans: &mut [u32], units: usize)
     name_part(spans, 0, units);
 }
 
-// `ok TEXT`
-#[tactic(auto, using(crate::proofs::Numbers::refusal_numbered), unfolding(crate::specs::Told::text_told))]
-pub fn text_told(s: Saying) -> Answer
-    ensures { result ≡ text_told (said_in s) }
+// `ok TEXT`; the table's first text is what stands in front of the output
+#[tactic(auto, using(crate::proofs::Numbers::refusal_numbered), unfolding(crate::specs::Told::text_told, crate::specs::Told::text_span))]
+pub fn text_told<T: Counted>(answer: Result<T, Refusal>, spans: &mut [u32]) -> Answer
+    ensures { let said = answer_said T.says answer in (result ≡ text_told said) × (spans.new ≡ sets spans.old 0 (text_span said)) }
 {
-    match s {
-        Ok(_) => Answer {
-            spans: 2,
-            ..said(Word::Ok)
-        },
+    match answer {
+        Ok(text) => {
+            name_front(spans, text.counts().units);
+            Answer {
+                spans: 2,
+                ..said(Word::Ok)
+            }
+        }
         Err(r) => refused(r, 0),
     }
 }
 
 // `ok UNITS OUT`, or `refused NUMBER PLACE OUT`
 #[tactic(auto, using(crate::proofs::Numbers::refusal_numbered), unfolding(crate::specs::Told::lent_told))]
-pub fn lent_told(s: Saying) -> Answer
-    ensures { result ≡ lent_told (said_in s) }
+pub fn lent_told<T: Counted>(answer: Result<T, Refusal>) -> Answer
+    ensures { result ≡ lent_told (answer_said T.says answer) }
 {
-    match s {
-        Ok(counts) => with_one(counts.units, 2),
+    match answer {
+        Ok(lent) => with_one(lent.counts().units, 2),
         Err(r) => refused(r, 2),
     }
 }
@@ -178,37 +124,44 @@ fn places_of(texts: usize, places: usize) -> usize
 
 // `ok COUNT A0 A1 ..`, by a span table of so many places
 #[tactic(auto, using(crate::proofs::Numbers::refusal_numbered), unfolding(crate::specs::Told::texts_told))]
-pub fn texts_told(s: Saying, places: usize) -> Answer
-    ensures { result ≡ texts_told places (said_in s) }
+pub fn texts_told<T: Counted>(answer: Result<T, Refusal>, places: usize) -> Answer
+    ensures { result ≡ texts_told places (answer_said T.says answer) }
 {
-    match s {
-        Ok(counts) => with_one(counts.arguments, places_of(counts.arguments, places)),
+    match answer {
+        Ok(read) => {
+            let texts = read.counts().arguments;
+            with_one(texts, places_of(texts, places))
+        }
         Err(r) => refused(r, 0),
     }
 }
 
 // `ok COUNT UNITS TEXT`, or `refused NUMBER PLACE TEXT`, where so many numbers of the span table name the text, or none
 #[tactic(auto, using(crate::proofs::Numbers::refusal_numbered), unfolding(crate::specs::Told::counts_told))]
-pub fn counts_told(s: Saying, spans: usize) -> Answer
-    ensures { result ≡ counts_told spans (said_in s) }
+pub fn counts_told<T: Counted>(answer: Result<T, Refusal>, spans: usize) -> Answer
+    ensures { result ≡ counts_told spans (answer_said T.says answer) }
 {
-    match s {
-        Ok(counts) => Answer {
-            count: 2,
-            second: counts.units as u64,
-            ..with_one(counts.arguments, spans)
-        },
+    match answer {
+        Ok(read) => {
+            let counts = read.counts();
+            Answer {
+                count: 2,
+                second: counts.units as u64,
+                ..with_one(counts.arguments, spans)
+            }
+        }
         Err(r) => refused(r, spans),
     }
 }
 
 // `ok USED KEY:VALUE ..`, by a span table of so many places
 #[tactic(auto, using(crate::proofs::Numbers::refusal_numbered), unfolding(crate::specs::Told::entries_told))]
-pub fn entries_told(s: Saying, places: usize) -> Answer
-    ensures { result ≡ entries_told places (said_in s) }
+pub fn entries_told<T: Counted>(answer: Result<T, Refusal>, places: usize) -> Answer
+    ensures { result ≡ entries_told places (answer_said T.says answer) }
 {
-    match s {
-        Ok(counts) => {
+    match answer {
+        Ok(listed) => {
+            let counts = listed.counts();
             let texts = places_of(counts.arguments, places);
             Answer {
                 manner: Manner::Key,
