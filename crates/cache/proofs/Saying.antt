@@ -7,7 +7,7 @@ use mathlib.Core.List.{List, [], ◌∷◌}
 use lib.ListN.{length, set}
 use Rattle.rules.specs.declared.Refusal.{Refusal}
 use Rattle.rules.specs.declared.Cached.{Cached}
-use Rattle.rules.specs.declared.Refusal.TheVariants as Refusal
+use Rattle.rules.specs.Answer.{refusal_number, refusal_place}
 use Rattle.rules.specs.Outcome.{Outcome, faultless, fault}
 use Rattle.rules.specs.Record.{argument_fault}
 use Rattle.rules.specs.Key.{Launch, key_of}
@@ -36,10 +36,10 @@ module _ {places : ℕ} {index units : List ℕ} (fingerprint : ℕ) (lent : Lau
   -- ---- a lookup
 
   -- the records are at fault
-  pub looked_refused : (place : ℕ) → fault 1 place ≡ argument_fault lent.text lent.records
-      → LooksUp places index units fingerprint lent (Err (Refusal.Record place))
+  pub looked_refused : (refusal : Refusal) → fault (refusal_number refusal) (refusal_place refusal) ≡ argument_fault lent.text lent.records
+      → LooksUp places index units fingerprint lent (Err refusal)
   unfolding looking
-  looked_refused place e = record { says = λ es r. rw (← e); lies = tt }
+  looked_refused refusal e = record { says = λ es r. rw (← e); lies = tt }
 
   -- they are sound
   pub looked_found : (f : Found) → faultless ≡ argument_fault lent.text lent.records → FindsLine places index units fingerprint lent f
@@ -56,11 +56,11 @@ module _ {places : ℕ} {index units : List ℕ} (fingerprint : ℕ) (lent : Lau
   unchanged es r o e = rw e (record { words = r.words; texts = r.texts })
 
   -- what the records are at fault for, the builder refuses
-  pub stored_refused : (place : ℕ) → fault 1 place ≡ argument_fault lent.text lent.records
-      → Stores places fingerprint lent (Err (Refusal.Record place)) index units index units
+  pub stored_refused : (refusal : Refusal) → fault (refusal_number refusal) (refusal_place refusal) ≡ argument_fault lent.text lent.records
+      → Stores places fingerprint lent (Err refusal) index units index units
   unfolding storing
-  stored_refused place e =
-      let p = fault_first lent 1 place (sym e) in
+  stored_refused refusal e =
+      let p = fault_first lent (refusal_number refusal) (refusal_place refusal) (sym e) in
       record {
         says = λ es r. rw p;
         leaves = λ es r. unchanged es r (storing places (length units) fingerprint lent es) (rw p);

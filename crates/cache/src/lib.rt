@@ -9,7 +9,7 @@ ghost use Rattle.rules.specs.Store.{Empties, LooksUp, Stores};
 ghost use Rattle.finding.specs.Found.{hit_of};
 
 use finding::{Found, find};
-use records::{Verdict, first_fault};
+use records::first_fault;
 use rules::{Cached, Refusal};
 use storing::add;
 use units::parts;
@@ -65,19 +65,18 @@ pub fn lookup(
 ) -> Result<Cached, Refusal>
     ensures { LooksUp cache_places index.now units.now fingerprint (launch force_quotes program.now records.now text.now) result }
 {
-    match first_fault(text, records) {
-        Verdict::Wrong(place) => Err(Refusal::Record(place)),
-        Verdict::Sound => looked(find(
-            PLACES,
-            index,
-            units,
-            fingerprint,
-            program,
-            records,
-            text,
-            force_quotes,
-        )),
-    }
+    first_fault(text, records)?;
+    let found = find(
+        PLACES,
+        index,
+        units,
+        fingerprint,
+        program,
+        records,
+        text,
+        force_quotes,
+    );
+    looked(found)
 }
 
 // The line of a hit: that part of the units.
@@ -99,9 +98,7 @@ pub fn store(
 ) -> Result<Cached, Refusal>
     ensures { Stores cache_places fingerprint (launch force_quotes program.now records.now text.now) result index.old units.old index.new units.new }
 {
-    if let Verdict::Wrong(place) = first_fault(text, records) {
-        return Err(Refusal::Record(place));
-    }
+    first_fault(text, records)?;
     let found = find(
         PLACES,
         index,

@@ -1,18 +1,20 @@
 -- `cache::lookup` meets its contract. Assumes nothing.
+use Rattle.std.proofs.lemmas.Result.{err_from_is_err_and}
 use Rattle.rules.specs.Key.{launch}
 use Rattle.cache.proofs.Saying.{looked_found, looked_refused}
 use Rattle.rules.specs.Cache.{cache_places}
 use Rattle.cache.proofs.lookup.Goals as goal
 
-pub returns-in-Wrong : goal.returns-in-Wrong
-returns-in-Wrong c =
+pub returns-in_err-first_fault : goal.returns-in_err-first_fault
+returns-in_err-first_fault c =
     let s = c.args in
     let lent = launch s.force_quotes s.program.now s.records.now s.text.now in
-    looked_refused s.fingerprint lent _ (rw c.in-Wrong.is at c.first_fault.ensures)
+    let p = err_from_is_err_and c.from_residual.result c.from_residual.ensures.1 in
+    rw (p.1, p.2) (looked_refused s.fingerprint lent _ c.in_err-first_fault.ensures)
 
-pub returns-in-Sound : goal.returns-in-Sound
+pub returns : goal.returns
 unfolding cache_places
-returns-in-Sound c =
+returns c =
     let s = c.args in
     let lent = launch s.force_quotes s.program.now s.records.now s.text.now in
-    rw c.looked.ensures (looked_found s.fingerprint lent _ (rw c.in-Sound.is at c.first_fault.ensures) c.find.ensures)
+    rw c.looked.ensures (looked_found s.fingerprint lent _ c.in_ok-first_fault.ensures c.find-found.ensures)

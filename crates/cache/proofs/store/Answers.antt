@@ -1,21 +1,23 @@
 -- `cache::store` meets its contract. Assumes nothing.
+use Rattle.std.proofs.lemmas.Result.{err_from_is_err_and}
 use Rattle.rules.specs.Key.{launch}
 use Rattle.cache.proofs.Saying.{stored_held, stored_new, stored_refused}
 use Rattle.rules.specs.Cache.{cache_places}
 use Rattle.cache.proofs.store.Goals as goal
 
-pub returns-in-Wrong : goal.returns-in-Wrong
-returns-in-Wrong c =
+pub returns-in_err-first_fault : goal.returns-in_err-first_fault
+returns-in_err-first_fault c =
     let s = c.args in
     let lent = launch s.force_quotes s.program.now s.records.now s.text.now in
-    stored_refused s.fingerprint lent _ (rw c.in-Wrong.is at c.first_fault.ensures)
+    let p = err_from_is_err_and c.from_residual.result c.from_residual.ensures.1 in
+    rw (p.1, p.2) (stored_refused s.fingerprint lent _ c.in_err-first_fault.ensures)
 
 pub returns-in-There : goal.returns-in-There
 unfolding cache_places
 returns-in-There c =
     let s = c.args in
     let lent = launch s.force_quotes s.program.now s.records.now s.text.now in
-    stored_held s.fingerprint lent (rw c.in_default.is at c.first_fault.ensures) (rw c.in-There.is at c.find-found.ensures)
+    stored_held s.fingerprint lent c.in_ok-first_fault.ensures (rw c.in-There.is at c.find-found.ensures)
 
 pub returns-in-Nowhere : goal.returns-in-Nowhere
 unfolding cache_places

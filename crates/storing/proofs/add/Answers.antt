@@ -33,23 +33,23 @@ slice_bounds-make_command_line-start c = start_within 0 _ (begun c)
 pub put_key-requires : goal.put_key-requires
 put_key-requires c =
     let s = c.args in
-    key_fits s.fingerprint _ (begun (goal.at.put_key-requires c).After-place_for-start) (rw c.in-Line.is at c.make_command_line.ensures)
+    key_fits s.fingerprint _ (begun (goal.at.put_key-requires c).After-place_for-start) (rw c.in-Ok.is at c.make_command_line.ensures)
 
 pub put_entry-requires : goal.put_entry-requires
 put_entry-requires c =
     let s = c.args in
-    let a = rw c.in-Line.is at c.make_command_line.ensures in
+    let a = rw c.in-Ok.is at c.make_command_line.ensures in
     let g : length s.units.now * 2 < 9223372036854775808 = c.well_formed.1.1.0.1 in
     let l = places_left s.fingerprint _ (begun (goal.at.put_entry-requires c).After-place_for-start) a in
     let f = all_fits s.fingerprint _ (begun (goal.at.put_entry-requires c).After-place_for-start) a in
     (omega (arith, l, c.word_at-count.ensures, c.requires), omega (arith, f, g))
 
-pub returns-in-Refused : goal.returns-in-Refused
-returns-in-Refused c =
+pub returns-in-Err : goal.returns-in-Err
+returns-in-Err c =
     let s = c.args in
-    rw c.refusal_for.ensures (add_refused s.fingerprint _ (begun (goal.at.returns-in-Refused c).After-place_for-start) c.in-Refused.r (rw c.in-Refused.is at c.make_command_line.ensures))
+    rw c.refusal_for.ensures (add_refused s.fingerprint _ (begun (goal.at.returns-in-Err c).After-place_for-start) c.in-Err.r (rw c.in-Err.is at c.make_command_line.ensures))
 
-pub returns-in-Line : goal.returns-in-Line
-returns-in-Line c =
+pub returns-in-Ok : goal.returns-in-Ok
+returns-in-Ok c =
     let s = c.args in
-    add_added s.fingerprint _ (begun (goal.at.returns-in-Line c).After-place_for-start) (rw c.in-Line.is at c.make_command_line.ensures) (rw c.word_at-count.ensures at c.put_entry.ensures) c.put_key.ensures c.requires
+    add_added s.fingerprint _ (begun (goal.at.returns-in-Ok c).After-place_for-start) (rw c.in-Ok.is at c.make_command_line.ensures) (rw c.word_at-count.ensures at c.put_entry.ensures) c.put_key.ensures c.requires
