@@ -111,7 +111,7 @@ pub extern "C" fn aslapush_code(status: u32) -> i32
 pub extern "C" fn aslapush_has_bat_extension(path: &[u16]) -> u32
     ensures { result ≡ as_number (has_batch_suffix path.now) }
 {
-    if names::has_bat_extension(path) { 1 } else { 0 }
+    u32::from(names::has_bat_extension(path))
 }
 
 // The class of a unit, 0 to 7.
