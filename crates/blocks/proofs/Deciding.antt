@@ -1,15 +1,14 @@
 -- What the entry point answers, refusal by refusal. Assumes nothing.
 use Rattle.std.specs.Prelude.{Ok, Err}
-use Prim.Native.Nat.{ℕ, zero, suc, ◌≤◌, ◌<◌}
+use Prim.Native.Nat.{ℕ, ◌≤◌, ◌<◌}
 use native.Mathlib.Omega.{arith}
 use mathlib.Core.Path.{◌≡◌, refl, ap, ◌∙◌}
 use mathlib.Core.List.{List}
 use lib.ListN.{length}
 use borrow.Author.Tests.{lt-ltb, le-ltb}
-use Rattle.laws.specs.Fault.{placed}
 use Rattle.laws.specs.Store.{sets_front}
 use Rattle.rules.specs.declared.Refusal.TheVariants as Refusal
-use Rattle.rules.specs.Outcome.{faultless, first_fault, unless, limited}
+use Rattle.rules.specs.Outcome.{fault, faultless, first_fault, unless, limited}
 use Rattle.rules.specs.Record.{entry_fault, entries_of}
 use Rattle.rules.specs.Block.{block_limit, block, entry_nul_finding, environment_block}
 use Rattle.rules.specs.Answer.{Answered, filled_said, wrote}
@@ -25,17 +24,15 @@ in_order records text room = refl
 
 module _ (records text out : List ℕ) where
   -- 1
-  pub by_record : (place : ℕ) → entry_fault text records ≡ placed 1 place → (place ≡ 0 → ⊥)
+  pub by_record : (place : ℕ) → entry_fault text records ≡ fault 1 place
       → Answered (environment_block records text (length out)) (filled_said (Err (Refusal.Record place))) out out
-  by_record zero h z = absurd (z refl)
-  by_record (suc place) h z = rw (in_order, h) (record { says = refl; leaves = refl })
+  by_record place h = rw (in_order, h) (record { says = refl; leaves = refl })
 
   module _ (sound : entry_fault text records ≡ faultless) where
     -- 5
-    pub by_nul : (place : ℕ) → first_fault entry_nul_finding (entries_of text records) ≡ placed 5 place → (place ≡ 0 → ⊥)
+    pub by_nul : (place : ℕ) → first_fault entry_nul_finding (entries_of text records) ≡ fault 5 place
         → Answered (environment_block records text (length out)) (filled_said (Err (Refusal.Nul place))) out out
-    by_nul zero h z = absurd (z refl)
-    by_nul (suc place) h z = rw (in_order, sound, h) (record { says = refl; leaves = refl })
+    by_nul place h = rw (in_order, sound, h) (record { says = refl; leaves = refl })
 
     -- the block, and what of it is counted
     abbrev whole : List ℕ

@@ -1,42 +1,61 @@
--- What is left of a flat list of entry records, from a place on. Assumes nothing.
-use Prim.Native.Nat.{ℕ, ◌+◌, ◌≤◌, ◌<◌}
+-- The records of a flat list, by the fours of its numbers. Assumes nothing.
+use Prim.Native.Nat.{ℕ, zero, suc, ◌+◌, ◌*◌, ◌/◌, ◌≤◌, ◌<◌}
 use native.Mathlib.Omega.{arith}
-use mathlib.Core.Path.{◌≡◌, refl}
-use mathlib.Core.List.{List, [], ◌∷◌}
-use lib.ListN.{length, drop, length-drop, drop_of_length-le}
-use Rattle.rules.specs.Record.{whole, cut, wholes, EntryRecord, entry_records, entry_of, entries_of}
-use Rattle.laws.specs.Records.{next_numbers}
+use mathlib.Core.Path.{◌≡◌, refl, ap}
+use mathlib.Core.List.{List, [], ◌∷◌, ◌++◌, map}
+use lib.ListN.{length, get_or, drop, drop_of_length-le}
+use Rattle.std.proofs.Common.{add-one, drop-cons}
+use Rattle.std.specs.Simd.{first_chunks}
+use Rattle.rules.specs.Record.{Lent, whole, cut, wholes, EntryRecord, entry_records, Entry, entry_of, entries_of}
 use Rattle.blocks.specs.Entries.{numbered}
 
-module _ (records : List ℕ) (at : ℕ) where
-  -- a whole record, and what is behind it
-  pub next_record : {r : EntryRecord} → r ≡ numbered records at → at + 4 ≤ length records
-      → entry_records (drop at records) ≡ whole r ∷ entry_records (drop (at + 4) records)
-  unfolding entry_records
-  next_record e h =
-      let second : at + 1 + 1 ≡ at + 2 = omega arith in
-      let third : at + 2 + 1 ≡ at + 3 = omega arith in
-      rw (e, next_numbers records at 4 h, second, third)
+-- the numbers of the whole records
+abbrev pub fours : List ℕ → List (List ℕ)
+fours records = first_chunks 4 (length records / 4) records
 
-  -- the end of the list
-  pub no_record : length records ≤ at → entry_records (drop at records) ≡ []
-  unfolding entry_records
-  no_record h = rw drop_of_length-le
+-- the numbers behind them
+abbrev pub behind_fours : List ℕ → List ℕ
+behind_fours records = drop (length records / 4 * 4) records
 
--- a list that ends inside a record
-cut_short : (rest : List ℕ) → 0 < length rest → length rest < 4 → entry_records rest ≡ cut ∷ []
+-- a whole record, by its numbers
+abbrev pub whole_of : List ℕ → Lent EntryRecord
+whole_of numbers = whole (numbered numbers)
+
+by_fours : (k : ℕ) (records : List ℕ) → k * 4 ≤ length records
+    → entry_records records ≡ map whole_of (first_chunks 4 k records) ++ entry_records (drop (k * 4) records)
 unfolding entry_records
-cut_short [] h l = absurd (omega arith)
-cut_short (a ∷ []) h l = refl
-cut_short (a ∷ b ∷ []) h l = refl
-cut_short (a ∷ b ∷ c ∷ []) h l = refl
-cut_short (a ∷ b ∷ c ∷ d ∷ rest) h l = absurd (omega arith)
+by_fours zero records h = refl
+by_fours (suc k) [] h = absurd (omega arith)
+by_fours (suc k) (a ∷ []) h = absurd (omega arith)
+by_fours (suc k) (a ∷ b ∷ []) h = absurd (omega arith)
+by_fours (suc k) (a ∷ b ∷ c ∷ []) h = absurd (omega arith)
+by_fours (suc k) (a ∷ b ∷ c ∷ d ∷ more) h =
+    let n : suc k * 4 ≡ suc (suc (suc (suc (k * 4)))) = omega arith in
+    rw n (ap (λ (l : List (Lent EntryRecord)). whole_of (a ∷ b ∷ c ∷ d ∷ []) ∷ l) (by_fours k more (omega arith)))
 
--- what is left ends inside a record
-pub cut_record : (records : List ℕ) (at : ℕ) → at < length records → length records < at + 4 → entry_records (drop at records) ≡ cut ∷ []
-cut_record records at h l = cut_short (drop at records) (rw length-drop (omega arith)) (rw length-drop (omega arith))
+-- the list is its whole records, and what is behind them
+pub all_records : (records : List ℕ) → entry_records records ≡ map whole_of (fours records) ++ entry_records (behind_fours records)
+all_records records = by_fours (length records / 4) records (omega arith)
+
+-- nothing is behind them, or a cut record
+pub none_behind : (rest : List ℕ) → length rest ≡ 0 → entry_records rest ≡ []
+unfolding entry_records
+none_behind [] h = refl
+none_behind (a ∷ rest) h = absurd (omega arith)
+
+pub cut_behind : (rest : List ℕ) → ¬ (length rest ≡ 0) → length rest < 4 → entry_records rest ≡ cut ∷ []
+unfolding entry_records
+cut_behind [] h l = absurd (h refl)
+cut_behind (a ∷ []) h l = refl
+cut_behind (a ∷ b ∷ []) h l = refl
+cut_behind (a ∷ b ∷ c ∷ []) h l = refl
+cut_behind (a ∷ b ∷ c ∷ d ∷ rest) h l = absurd (omega arith)
 
 -- ---- entries
+
+-- the entry that a record's numbers name
+abbrev pub named : List ℕ → List ℕ → Entry
+named text numbers = entry_of text (numbered numbers)
 
 none_whole : (text rest : List ℕ) → length rest < 4 → entries_of text rest ≡ []
 unfolding entries_of entry_records wholes
@@ -46,13 +65,26 @@ none_whole text (a ∷ b ∷ []) h = refl
 none_whole text (a ∷ b ∷ c ∷ []) h = refl
 none_whole text (a ∷ b ∷ c ∷ d ∷ rest) h = absurd (omega arith)
 
-module _ (text records : List ℕ) (at : ℕ) where
-  -- an entry, and those behind it
-  pub next_entry : {r : EntryRecord} → r ≡ numbered records at → at + 4 ≤ length records
-      → entries_of text (drop at records) ≡ entry_of text r ∷ entries_of text (drop (at + 4) records)
-  unfolding entries_of wholes
-  next_entry e h = rw (next_record records at e h)
+entries_by_fours : (text : List ℕ) (k : ℕ) (records : List ℕ) → k * 4 ≤ length records → length records < k * 4 + 4
+    → entries_of text records ≡ map (named text) (first_chunks 4 k records)
+unfolding entries_of entry_records wholes
+entries_by_fours text zero records h l = none_whole text records (omega arith)
+entries_by_fours text (suc k) [] h l = absurd (omega arith)
+entries_by_fours text (suc k) (a ∷ []) h l = absurd (omega arith)
+entries_by_fours text (suc k) (a ∷ b ∷ []) h l = absurd (omega arith)
+entries_by_fours text (suc k) (a ∷ b ∷ c ∷ []) h l = absurd (omega arith)
+entries_by_fours text (suc k) (a ∷ b ∷ c ∷ d ∷ more) h l =
+    ap (λ (l : List Entry). named text (a ∷ b ∷ c ∷ d ∷ []) ∷ l) (entries_by_fours text k more (omega arith) (omega arith))
 
-  -- no whole record is left
-  pub no_entry : length records < at + 4 → entries_of text (drop at records) ≡ []
-  no_entry h = none_whole text (drop at records) (rw length-drop (omega arith))
+-- the entries are those of the whole records
+pub all_entries : (text records : List ℕ) → entries_of text records ≡ map (named text) (fours records)
+all_entries text records = entries_by_fours text (length records / 4) records (omega arith) (omega arith)
+
+-- what is left of the whole records from an index on: an entry, and those behind it
+pub next_entry : (text : List ℕ) (numbers : List (List ℕ)) (i : ℕ) {r : EntryRecord} → r ≡ numbered (get_or numbers i []) → i < length numbers
+    → map (named text) (drop i numbers) ≡ entry_of text r ∷ map (named text) (drop (i + 1) numbers)
+next_entry text numbers i e h = rw (e, add-one i, drop-cons numbers i [] h)
+
+-- or none
+pub no_entry : (text : List ℕ) (numbers : List (List ℕ)) (i : ℕ) → length numbers ≤ i → map (named text) (drop i numbers) ≡ []
+no_entry text numbers i h = rw (drop_of_length-le numbers h)

@@ -1,8 +1,9 @@
 -- What the routines under the environment block promise. Assumes nothing.
-use Rattle.std.specs.Prelude.{ℕ, ◌+◌, ◌≡◌, Bool, List, [], ◌∷◌, ◌++◌, ltb, length, get_or}
+use Rattle.std.specs.Prelude.{ℕ, ◌+◌, ◌≡◌, Bool, List, [], ◌∷◌, ◌++◌, Option, None, Some, ltb, length, get_or}
 use Rattle.std.proofs.lemmas.List.Edits.{sets}
 use Rattle.rules.specs.Choice.{pick, either, any}
 use Rattle.rules.specs.Unit.{is_nul, nul, equals}
+use Rattle.rules.specs.Outcome.{Fault, faultless, fault}
 use Rattle.rules.specs.Record as rules
 use Rattle.rules.specs.Record.{Entry, exceeds}
 use Rattle.blocks.specs.declared.entry_records.EntryRecord.{EntryRecord}
@@ -13,10 +14,9 @@ use Rattle.blocks.specs.declared.entry_records.EntryRecord.{EntryRecord}
 abbrev pub ruled : EntryRecord → rules.EntryRecord
 ruled r = record { key_start = r.key_start; key_len = r.key_len; value_start = r.value_start; value_len = r.value_len }
 
--- the record whose first number stands at a place of a flat list
-abbrev pub numbered : List ℕ → ℕ → rules.EntryRecord
-numbered records at =
-    record { key_start = get_or records at 0; key_len = get_or records (at + 1) 0; value_start = get_or records (at + 2) 0; value_len = get_or records (at + 3) 0 }
+-- the record that four numbers make
+abbrev pub numbered : List ℕ → rules.EntryRecord
+numbered numbers = record { key_start = get_or numbers 0 0; key_len = get_or numbers 1 0; value_start = get_or numbers 2 0; value_len = get_or numbers 3 0 }
 
 -- the key or the value exceeds the text
 abbrev pub is_outside : List ℕ → rules.EntryRecord → Bool
@@ -25,6 +25,11 @@ is_outside text r = either (exceeds text r.key_start r.key_len) (exceeds text r.
 -- the key or the value has a NUL
 abbrev pub has_nul : Entry → Bool
 has_nul e = either (any is_nul e.key) (any is_nul e.value)
+
+-- a fault by its number and the place told of it; where none is told there is no fault
+abbrev pub fault_if : ℕ → Option ℕ → Fault
+fault_if number None = faultless
+fault_if number (Some place) = fault number place
 
 -- ---- units
 

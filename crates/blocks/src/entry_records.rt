@@ -1,9 +1,12 @@
 // Entry records in a flat list.
-ghost use Rattle.std.specs.Prelude.{◌≡◌, ◌+◌, ◌≤◌, length};
+ghost use Rattle.std.specs.Prelude.{◌≡◌};
 ghost use Rattle.blocks.specs.Entries.{ruled, numbered};
 
+// How many numbers make a record.
+pub const NUMBERS: usize = 4;
+
 // Where a key and its value lie in the lent text.
-#[derive(Clone, Copy)]
+#[derive(Clone, Copy, Debug, PartialEq, Eq)]
 pub struct EntryRecord {
     pub key_start: u32,
     pub key_len: u32,
@@ -11,15 +14,15 @@ pub struct EntryRecord {
     pub value_len: u32,
 }
 
-// The record whose first number stands at a place of the flat list.
-pub fn record_at(records: &[u32], at: usize) -> EntryRecord
-    requires { at + 4 ≤ length records.now }
-    ensures { ruled result ≡ numbered records.now at }
-{
-    EntryRecord {
-        key_start: records[at],
-        key_len: records[at + 1],
-        value_start: records[at + 2],
-        value_len: records[at + 3],
+impl From<[u32; NUMBERS]> for EntryRecord {
+    ghost from_gives = { λ numbers r. ruled r ≡ numbered numbers };
+
+    fn from([key_start, key_len, value_start, value_len]: [u32; NUMBERS]) -> EntryRecord {
+        EntryRecord {
+            key_start,
+            key_len,
+            value_start,
+            value_len,
+        }
     }
 }

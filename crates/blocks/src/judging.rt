@@ -3,11 +3,9 @@ ghost use Rattle.std.specs.Prelude.{◌≡◌, ◌+◌, ltb};
 ghost use Rattle.rules.specs.Record.{entry_fault, entries_of, entry_of};
 ghost use Rattle.rules.specs.Outcome.{first_fault};
 ghost use Rattle.rules.specs.Block.{entry_nul_finding};
-ghost use Rattle.laws.specs.Fault.{placed};
-ghost use Rattle.blocks.specs.Entries.{ruled, is_outside, has_nul};
+ghost use Rattle.blocks.specs.Entries.{ruled, is_outside, has_nul, fault_if};
 
-use crate::entry_records;
-use crate::entry_records::EntryRecord;
+use crate::entry_records::{EntryRecord, NUMBERS};
 use units::parts;
 
 // Whether start plus length exceeds a text's length. Both are widened first, so that their sum cannot wrap.
@@ -21,29 +19,23 @@ fn exceeds(units: usize, start: u32, len: u32) -> bool
 fn is_outside(text: &[u16], entry: EntryRecord) -> bool
     ensures { result ≡ is_outside text.now (ruled entry) }
 {
-    if exceeds(text.len(), entry.key_start, entry.key_len) {
-        return true;
-    }
-    exceeds(text.len(), entry.value_start, entry.value_len)
+    exceeds(text.len(), entry.key_start, entry.key_len)
+        || exceeds(text.len(), entry.value_start, entry.value_len)
 }
 
-// The place of the first record that exceeds the text or is cut, or 0 where there is none.
-pub fn first_outside(records: &[u32], text: &[u16]) -> usize
-    ensures { entry_fault text.now records.now ≡ placed 1 result }
+// The place of the first record that exceeds the text or is cut.
+pub fn first_outside(records: &[u32], text: &[u16]) -> Option<usize>
+    ensures { entry_fault text.now records.now ≡ fault_if 1 result }
 {
-    let mut at = 0;
-    let mut place = 1;
-    while at + 4 <= records.len() {
-        if is_outside(text, entry_records::record_at(records, at)) {
-            return place;
-        }
-        at += 4;
-        place += 1;
+    let (whole, cut) = records.as_chunks::<NUMBERS>();
+    let found = whole
+        .iter()
+        .position(|numbers| is_outside(text, EntryRecord::from(*numbers)));
+    match found {
+        Some(i) => Some(i + 1),
+        None if cut.is_empty() => None,
+        None => Some(whole.len() + 1),
     }
-    if at < records.len() {
-        return place;
-    }
-    0
 }
 
 // Whether a record's key or value has a NUL.
@@ -51,25 +43,17 @@ fn has_nul(text: &[u16], entry: EntryRecord) -> bool
     ensures { result ≡ has_nul (entry_of text.now (ruled entry)) }
 {
     let key = parts::part_of(text, entry.key_start, entry.key_len);
-    if scans::has_nul(key) {
-        return true;
-    }
     let value = parts::part_of(text, entry.value_start, entry.value_len);
-    scans::has_nul(value)
+    scans::has_nul(key) || scans::has_nul(value)
 }
 
-// The place of the first entry with a NUL, or 0 where there is none.
-pub fn first_with_nul(records: &[u32], text: &[u16]) -> usize
-    ensures { first_fault entry_nul_finding (entries_of text.now records.now) ≡ placed 5 result }
+// The place of the first entry with a NUL.
+pub fn first_with_nul(records: &[u32], text: &[u16]) -> Option<usize>
+    ensures { first_fault entry_nul_finding (entries_of text.now records.now) ≡ fault_if 5 result }
 {
-    let mut at = 0;
-    let mut place = 1;
-    while at + 4 <= records.len() {
-        if has_nul(text, entry_records::record_at(records, at)) {
-            return place;
-        }
-        at += 4;
-        place += 1;
-    }
-    0
+    let (whole, _) = records.as_chunks::<NUMBERS>();
+    let found = whole
+        .iter()
+        .position(|numbers| has_nul(text, EntryRecord::from(*numbers)));
+    found.map(|i| i + 1)
 }

@@ -18,13 +18,11 @@ pub const BLOCK_LIMIT: usize = 65535;
 pub fn make_envp(records: &[u32], text: &[u16], out: &mut [u16]) -> Result<usize, Refusal>
     ensures { Answered (environment_block records.now text.now (length out.old)) (filled_said result) out.old out.new }
 {
-    let outside = judging::first_outside(records, text);
-    if outside != 0 {
-        return Err(Refusal::Record(outside));
+    if let Some(place) = judging::first_outside(records, text) {
+        return Err(Refusal::Record(place));
     }
-    let with_nul = judging::first_with_nul(records, text);
-    if with_nul != 0 {
-        return Err(Refusal::Nul(with_nul));
+    if let Some(place) = judging::first_with_nul(records, text) {
+        return Err(Refusal::Nul(place));
     }
     let units = writing::block_len(records, text);
     if BLOCK_LIMIT < units {

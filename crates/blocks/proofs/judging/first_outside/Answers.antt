@@ -1,44 +1,35 @@
 -- `blocks::judging::first_outside` meets its contract. Assumes nothing.
-use Rattle.rules.specs.Record.{entry_fault}
-use Rattle.blocks.proofs.Faults.{found, none_found, none_passed, outside, passed}
-use Rattle.blocks.proofs.Flat.{cut_record, next_record, no_record}
-use mathlib.Core.Path.{refl}
-use Rattle.blocks.specs.Entries.{ruled}
-use borrow.Author.Rules.{rules}
+use Rattle.std.proofs.Common.{rules, ◌≡◌, sym, ◌∙◌}
+use borrow.Author.Tests.{tests}
+use Rattle.std.specs.List.{position}
+use Rattle.std.proofs.lemmas.Iterator.{YieldsList-from_slice}
+use Rattle.std.proofs.lemmas.Iterator.Search.{position_from_yields_List}
+use Rattle.blocks.proofs.Flat.{fours}
+use Rattle.blocks.proofs.Faults.{exceeding, outside_first, none_outside, cut_outside}
+use Rattle.blocks.proofs.judging.first_outside.Goals.{After-position-found}
 use Rattle.blocks.proofs.judging.first_outside.Goals as goal
 
-pub loop-at-init : goal.loop-at-init
-loop-at-init c = (search rules, search rules, none_passed)
+-- the index at which the test first holds, as it was found
+found : (c : After-position-found) → c.position-found.result ≡ position (exceeding c.args.text.now c.args.records.now) (fours c.args.records.now)
+found c =
+    position_from_yields_List _ _ _ c.position-found.result c.position-found.ensures.ran (YieldsList-from_slice (fours c.args.records.now) cc)
+    (λ x b q k. search (rules, tests))
 
-pub returns-then-is_outside : goal.returns-then-is_outside
-unfolding entry_fault
-returns-then-is_outside c =
+pub returns-in-Some : goal.returns-in-Some
+returns-in-Some c =
     let a = c.args in
-    let l = c.loop-at in
-    let r = c.record_at in
-    found l.invariant.2 (next_record a.records.now l.at r.ensures c.loop-at-test.true)
-    (outside a.text.now (ruled r.result) c.is_outside.ensures c.if-is_outside.true)
+    rw c.in-Some.is at (outside_first a.text.now a.records.now c.position-found.result (found (goal.at.returns-in-Some c).After-position-found))
 
-pub loop-at-preserved : goal.loop-at-preserved
-loop-at-preserved c =
+pub returns-in-None : goal.returns-in-None
+returns-in-None c =
     let a = c.args in
-    let l = c.loop-at in
-    let r = c.record_at in (
-      search rules,
-      search rules,
-      passed l.invariant.2 (next_record a.records.now l.at r.ensures c.loop-at-test.true) (outside a.text.now (ruled r.result) c.is_outside.ensures c.if-is_outside.false),
-    )
+    let rest = c.as_chunks.result.1.now in
+    let none = sym (found (goal.at.returns-in-None c).After-position-found) ∙ c.in-None.is in
+    none_outside a.text.now a.records.now none rest c.as_chunks.ensures.back (search (rules, tests))
 
-pub returns-then-at-records : goal.returns-then-at-records
-unfolding entry_fault
-returns-then-at-records c =
+pub returns-in-None-2 : goal.returns-in-None-2
+returns-in-None-2 c =
     let a = c.args in
-    let l = c.loop-at in
-    found l.invariant.2 (cut_record a.records.now l.at c.if-at-records.true c.loop-at-test.false) refl
-
-pub returns : goal.returns
-unfolding entry_fault
-returns c =
-    let a = c.args in
-    let l = c.loop-at in
-    none_found l.invariant.2 (no_record a.records.now l.at c.if-at-records.false)
+    let rest = c.as_chunks.result.1.now in
+    let none = sym (found (goal.at.returns-in-None-2 c).After-position-found) ∙ c.in-None.is in
+    rw c.as_chunks.ensures.front (cut_outside a.text.now a.records.now none rest c.as_chunks.ensures.back (search (rules, tests)))

@@ -18,9 +18,9 @@ returns-then-end-eq0 c =
     let tested = c.if-end-gt-BLOCK_LIMIT in
     block_empty block_limit _ (entries_of a.text.now a.records.now) entries.ensures tested.false c.if-end-eq0.true c.put.ensures c.put-then-end-eq0.ensures
 
-pub returns : goal.returns
+pub returns-else-end-eq0 : goal.returns-else-end-eq0
 unfolding block_limit
-returns c =
+returns-else-end-eq0 c =
     let a = c.args in
     let entries = c.put_entries-end in
     block_full block_limit _ (entries_of a.text.now a.records.now) entries.ensures c.if-end-gt-BLOCK_LIMIT.false c.if-end-eq0.false c.put.ensures

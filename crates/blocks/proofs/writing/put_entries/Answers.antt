@@ -1,31 +1,32 @@
 -- `blocks::writing::put_entries` meets its contract. Assumes nothing.
+use mathlib.Core.Path.{◌≡◌, ap, sym, ◌∙◌}
+use mathlib.Core.List.{map}
 use Rattle.rules.specs.Block.{block_limit}
-use Rattle.blocks.proofs.Entries.{all_put, none_put, one_put, too_many}
-use Rattle.blocks.proofs.Flat.{next_entry, no_entry}
-use borrow.Author.Rules.{rules}
+use Rattle.rules.specs.Record.{entries_of}
+use Rattle.blocks.proofs.Entries.{all_put, one_put, too_many}
+use Rattle.blocks.proofs.Flat.{named, all_entries, next_entry, no_entry}
+use Rattle.blocks.proofs.writing.put_entries.Goals.{After-as_chunks}
 use Rattle.blocks.proofs.writing.put_entries.Goals as goal
 
-pub loop-at-init : goal.loop-at-init
-loop-at-init c = (search rules, none_put _ _ _)
-
-pub put_entry-to-requires : goal.put_entry-to-requires
-put_entry-to-requires c = c.loop-at.invariant.1.below
+-- the entries are those that the fours name
+same : (c : After-as_chunks) → map (named c.args.text.now) c.as_chunks.result.0.now ≡ entries_of c.args.text.now c.args.records.now
+same c = ap (map (named c.args.text.now)) c.as_chunks.ensures.front ∙ sym (all_entries c.args.text.now c.args.records.now)
 
 pub returns-then-to-gt-BLOCK_LIMIT : goal.returns-then-to-gt-BLOCK_LIMIT
 unfolding block_limit
 returns-then-to-gt-BLOCK_LIMIT c =
-    let a = c.args in
-    let l = c.loop-at in
-    too_many l.invariant.1 (next_entry a.text.now a.records.now l.at c.record_at.ensures c.loop-at-test.true) c.put_entry-to.ensures c.if-to-gt-BLOCK_LIMIT.true
+    let whole = c.as_chunks.result.0.now in
+    let next = next_entry c.args.text.now whole c.loop-numbers.numbers-index c.from.ensures c.loop-numbers-test.true in
+    rw (← same (goal.at.returns-then-to-gt-BLOCK_LIMIT c).After-as_chunks) (too_many c.loop-numbers.invariant next c.put_entry-to.ensures c.if-to-gt-BLOCK_LIMIT.true)
 
-pub loop-at-preserved : goal.loop-at-preserved
+pub loop-numbers-preserved : goal.loop-numbers-preserved
 unfolding block_limit
-loop-at-preserved c =
-    let a = c.args in
-    let l = c.loop-at in (
-      search rules,
-      one_put l.invariant.1 (next_entry a.text.now a.records.now l.at c.record_at.ensures c.loop-at-test.true) c.put_entry-to.ensures c.if-to-gt-BLOCK_LIMIT.false c.put_entry-to.auto.out,
-    )
+loop-numbers-preserved c =
+    let whole = c.as_chunks.result.0.now in
+    let next = next_entry c.args.text.now whole c.loop-numbers.numbers-index c.from.ensures c.loop-numbers-test.true in
+    one_put c.loop-numbers.invariant next c.put_entry-to.ensures c.if-to-gt-BLOCK_LIMIT.false c.put_entry-to.auto.out
 
 pub returns : goal.returns
-returns c = let a = c.args in all_put c.loop-at.invariant.1 (no_entry a.text.now a.records.now c.loop-at.at c.loop-at-test.false)
+returns c =
+    let none = no_entry c.args.text.now c.as_chunks.result.0.now c.loop-numbers.numbers-index c.loop-numbers-test.false in
+    rw (← same (goal.at.returns c).After-as_chunks) (all_put c.loop-numbers.invariant none)
