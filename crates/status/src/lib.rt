@@ -22,9 +22,10 @@ fn glyph_of(digit: u32) -> u16
 {
     let unit = digit as u16;
     if unit < 10 {
-        return 48 + unit;
+        u16::from(b'0') + unit
+    } else {
+        u16::from(b'a') + (unit - 10)
     }
-    87 + unit
 }
 
 // Lays the digits of a number into the ten places lent, up to the last, and answers where the first lies. The last digit is found first, so
@@ -34,7 +35,8 @@ fn lay_digits(base: u32, number: u32, places: &mut [u16; 10]) -> usize
     ensures { DigitsLaid base number result places.old places.new }
 {
     let mut left = number;
-    let mut at = 10;
+    let mut at = places.len();
+    // A while and no range: how many digits there are shows only as the number is divided.
     while base <= left {
         at -= 1;
         places[at] = glyph_of(left % base);
@@ -68,19 +70,16 @@ pub fn status_text(status: u32, out: &mut [u16]) -> Result<usize, Refusal>
     let mut places = [0u16; 10];
     if status < FIRST_HEXADECIMAL {
         let at = lay_digits(10, status, &mut places);
-        return answer(&DECIMAL_FRONT, &places[at..], out);
+        answer(&DECIMAL_FRONT, &places[at..], out)
+    } else {
+        let at = lay_digits(16, status, &mut places);
+        answer(&HEXADECIMAL_FRONT, &places[at..], out)
     }
-    let at = lay_digits(16, status, &mut places);
-    answer(&HEXADECIMAL_FRONT, &places[at..], out)
 }
 
-// The status as a signed number (Rust: `ExitStatus::code`). By cases, and from the upper end down, because the cast is exact for numbers
-// below 2,147,483,648 alone.
+// The status as a signed number (Rust: `ExitStatus::code`).
 pub fn code(status: u32) -> i32
     ensures { result ≡ signed_code status }
 {
-    if status <= 2147483647 {
-        return status as i32;
-    }
-    -1 - (4294967295 - status) as i32
+    status.cast_signed()
 }

@@ -12,11 +12,11 @@ returns-then-status-lt-FIRST_HEXADECIMAL c =
     (decimal_text c.args.status laid.result _ laid.new.places tested.true laid.ensures)
     c.answer.ensures
 
-pub returns : goal.returns
+pub returns-else-status-lt-FIRST_HEXADECIMAL : goal.returns-else-status-lt-FIRST_HEXADECIMAL
 unfolding units
-returns c =
+returns-else-status-lt-FIRST_HEXADECIMAL c =
     let tested = c.if-status-lt-FIRST_HEXADECIMAL in
-    let laid = c.lay_digits-at-2 in
+    let laid = c.lay_digits-at-else-status-lt-FIRST_HEXADECIMAL in
     of_status c.args.status
     (hexadecimal_text c.args.status laid.result _ laid.new.places tested.false c.ranges.status.fits laid.ensures)
-    c.answer-2.ensures
+    c.answer-else-status-lt-FIRST_HEXADECIMAL.ensures
