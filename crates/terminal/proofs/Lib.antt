@@ -1,7 +1,7 @@
-pub mod Ranges
-pub mod Placing
-pub mod Sequence
-pub mod Decoding
 pub mod Wording
+pub mod Commands
 pub mod Counting
-pub mod Signs
+pub mod Ranges
+pub mod Sequence
+pub mod Units
+pub mod Decoding

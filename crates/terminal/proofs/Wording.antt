@@ -1,16 +1,11 @@
 -- An entry's key, and the place of a part in a table. Assumes nothing.
-use Prim.Native.Nat.{ℕ, ◌+◌, ◌-◌, ◌≤◌, ◌<◌}
-use native.Mathlib.Numerals.{add-one}
-use native.Mathlib.Omega.{arith}
-use mathlib.Core.Path.{◌≡◌, refl, ◌∙◌}
-use mathlib.Core.Bool.{true, false}
-use mathlib.Core.List.{List, [], ◌∷◌}
-use lib.ListN.{length, take, drop, set}
-use borrow.Author.Tests.{le-leb, lt-leb}
-use Rattle.laws.specs.Scan.{before}
+use Rattle.std.proofs.Common.{ℕ, ◌+◌, ◌-◌, ◌≤◌, ◌<◌, ◌≡◌, refl, ◌∙◌, add-one, arith, true, false, List, [], ◌∷◌, length, length-drop, take, drop, set, le-leb}
+use Rattle.std.proofs.lemmas.Bool.{lt-leb}
+use Rattle.laws.specs.Scan.{before, leading_in}
 use Rattle.laws.specs.Store.{part_is}
-use Rattle.terminal.specs.Number.{largest}
+use Rattle.rules.specs.Choice.{flip}
 use Rattle.rules.specs.Unit.{is_equals}
+use Rattle.terminal.specs.Number.{largest}
 use Rattle.terminal.specs.Word.{key_length, is_place, Spanned}
 
 -- ---- an entry's key
@@ -22,10 +17,18 @@ no_key [] h = refl
 no_key (x ∷ xs) h = absurd (omega arith)
 
 -- behind the first unit
-pub key_behind : (xs : List ℕ) (n : ℕ) → (length xs ≡ 0 → ⊥) → n ≡ before is_equals (take (length xs - 1) (drop 1 xs)) → 1 + n ≡ key_length xs
+pub key_behind : (xs : List ℕ) (n : ℕ) → 0 < length xs → n ≡ before is_equals (take (length xs - 1) (drop 1 xs)) → 1 + n ≡ key_length xs
 unfolding key_length
-key_behind [] n h e = absurd (h refl)
+key_behind [] n h e = absurd (omega arith)
 key_behind (x ∷ xs) n h e = let f : n ≡ before is_equals xs = rw (part_is 1 (x ∷ xs)) at e in rw f (omega arith)
+
+-- a key is no longer than the entry
+pub key_in : (xs : List ℕ) (n : ℕ) → 0 < length xs → n ≡ before is_equals (take (length xs - 1) (drop 1 xs)) → 1 + n ≤ length xs
+key_in xs n h e =
+    let l = rw length-drop at (leading_in (λ x. flip (is_equals x)) (drop 1 xs)) in
+    omega (arith, rw part_is at e)
+
+pub ruleset keys = (no_key, key_behind, key_in)
 
 -- ---- the place of a part
 
@@ -55,3 +58,5 @@ module _ (table : List ℕ) (at start size : ℕ) where
             says = rw (le-leb (at + 2) (length table) place, le-leb start largest near, le-leb size largest h);
             stores = f ∙ rw (e, add-one at);
           }
+
+pub ruleset places = (no_place, far_start, far_length)

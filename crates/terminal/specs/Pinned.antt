@@ -1,8 +1,7 @@
 -- Small examples that pin what is read. Assumes nothing.
-use Rattle.std.specs.Prelude.{◌≡◌, refl, [], ◌∷◌, map}
+use Rattle.std.specs.Prelude.{◌≡◌, refl, None, Some, [], ◌∷◌, map}
 use Rattle.rules.specs.Unit.{units}
 use Rattle.laws.specs.Scan.{leading}
-use Rattle.terminal.specs.declared.numbers.Number.{Number}
 use Rattle.terminal.specs.Utf8.{good_bytes, good_units}
 use Rattle.terminal.specs.Number.{number_of}
 use Rattle.terminal.specs.Word.{key_length}
@@ -33,7 +32,7 @@ read_ill = refl
 
 -- numbers: the ends of the range, a 0 in front, one too large, none, and a sign
 pub numbers_so : map number_of (map units ("0" ∷ "4294967295" ∷ "007" ∷ "4294967296" ∷ "" ∷ "-1" ∷ []))
-    ≡ Number.Is 0 ∷ Number.Is 4294967295 ∷ Number.Is 7 ∷ Number.Not ∷ Number.Not ∷ Number.Not ∷ []
+    ≡ Some 0 ∷ Some 4294967295 ∷ Some 7 ∷ None ∷ None ∷ None ∷ []
 unfolding number_of units
 numbers_so = refl
 

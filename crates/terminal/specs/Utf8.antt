@@ -1,6 +1,6 @@
 -- UTF-8 and the UTF-16 units that it gives, from Unicode's tables of well-formed byte sequences (3-7) and of bits (3-6) and of surrogates (3-5).
 -- Assumes nothing.
-use Rattle.std.specs.Prelude.{ℕ, zero, suc, ◌+◌, ◌*◌, ◌-◌, ◌/◌, ◌%◌, ◌≡◌, Bool, List, [], ◌∷◌, ◌++◌, eqb, leb, ltb, length, get_or}
+use Rattle.std.specs.Prelude.{ℕ, zero, suc, ◌+◌, ◌*◌, ◌-◌, ◌/◌, ◌%◌, ◌≡◌, Bool, List, [], ◌∷◌, ◌++◌, Option, None, Some, leb, ltb, length, get_or}
 use Rattle.std.proofs.Common.{sym, ap, ◌∙◌}
 use Rattle.std.proofs.lemmas.List.Edits.{sets}
 use Rattle.rules.specs.Choice.{pick, either, both}
@@ -12,11 +12,11 @@ use Rattle.terminal.specs.declared.utf8.Taken.{Taken}
 -- ---- one sequence
 
 -- a row: how many bytes, and the range of the second
-abbrev pub row_of : ℕ → ℕ → ℕ → Lead
-row_of count least most = record { count = count; least = least; most = most }
+abbrev pub row_of : ℕ → ℕ → ℕ → Option Lead
+row_of count least most = Some (record { count = count; least = least; most = most })
 
 -- The table of well-formed byte sequences by the first byte. A third and a fourth byte are 128 to 191 in every row; a first byte in no row begins none.
-unfoldable pub lead_of : ℕ → Lead
+unfoldable pub lead_of : ℕ → Option Lead
 lead_of byte =
     pick (within 0 127 byte) (row_of 1 128 191)
     (pick (within 194 223 byte) (row_of 2 128 191)
@@ -27,7 +27,7 @@ lead_of byte =
     (pick (within 240 240 byte) (row_of 4 144 191)
     (pick (within 241 243 byte) (row_of 4 128 191)
     (pick (within 244 244 byte) (row_of 4 128 143)
-    (row_of 0 128 191)))))))))
+    None))))))))
 
 -- a third or fourth byte
 abbrev pub is_tail : ℕ → Bool
@@ -38,10 +38,10 @@ unfoldable pub are_tails : ℕ → List ℕ → Bool
 are_tails count bytes = either (ltb count 3) (both (is_tail (get_or bytes 2 0)) (either (ltb count 4) (is_tail (get_or bytes 3 0))))
 
 -- the bytes begin with as many as the row asks for, each in its range
-unfoldable pub is_whole : ℕ → ℕ → ℕ → List ℕ → Bool
+unfoldable pub is_whole : Lead → List ℕ → Bool
 unfolding are_tails
-is_whole count least most bytes =
-    both (ltb 0 count) (both (leb count (length bytes)) (either (ltb count 2) (both (within least most (get_or bytes 1 0)) (are_tails count bytes))))
+is_whole row bytes =
+    both (leb row.count (length bytes)) (either (ltb row.count 2) (both (within row.least row.most (get_or bytes 1 0)) (are_tails row.count bytes)))
 
 -- the bits of a sequence of so many bytes: 7; 5 and 6; 4, 6 and 6; 3, 6, 6 and 6
 unfoldable pub value_of : ℕ → List ℕ → ℕ
@@ -53,17 +53,17 @@ value_of count bytes =
     pick (ltb count 2) (a % 128)
     (pick (ltb count 3) (a % 32 * 64 + b) (pick (ltb count 4) ((a % 16 * 64 + b) * 64 + c) (((a % 8 * 64 + b) * 64 + c) * 64 + d)))
 
--- no sequence
-abbrev pub no_scalar : Scalar
-no_scalar = record { value = 0; bytes = 0 }
-
--- the character that the bytes begin with, and how many of them are its; of none where they begin with no well-formed sequence
-unfoldable pub scalar_of : List ℕ → Scalar
-unfolding lead_of is_whole value_of
-scalar_of bytes =
-    let row = lead_of (get_or bytes 0 0) in
+-- the character of a row that bytes begin with a whole sequence of
+abbrev pub scalar_in_row : List ℕ → Option Lead → Option Scalar
+scalar_in_row bytes None = None
+scalar_in_row bytes (Some row) =
     let found : Scalar = record { value = value_of row.count bytes; bytes = row.count } in
-    pick (is_whole row.count row.least row.most bytes) found no_scalar
+    pick (is_whole row bytes) (Some found) None
+
+-- the character that the bytes begin with, and how many of them are its; none where they begin with no well-formed sequence
+unfoldable pub scalar_of : List ℕ → Option Scalar
+unfolding lead_of is_whole value_of
+scalar_of bytes = scalar_in_row bytes (lead_of (get_or bytes 0 0))
 
 -- the units of a character: itself below 65,536, else a high surrogate with the upper ten bits of what it is above that and a low one with the lower ten
 unfoldable pub units_of : ℕ → List ℕ
@@ -73,15 +73,17 @@ units_of value =
 
 -- ---- a text
 
+-- the character that stands next, where one does, and those behind its bytes
+abbrev from_next : Option Scalar → (ℕ → List Scalar) → List Scalar
+from_next None behind = []
+from_next (Some next) behind = next ∷ behind (next.bytes - 1)
+
 -- the characters of a text up to the first byte that begins none, where so many bytes in front are those of a character before
 unfoldable pub scalars_from : ℕ → List ℕ → List Scalar
 unfolding scalar_of
 scalars_from passed [] = []
 scalars_from (suc passed) (byte ∷ more) = scalars_from passed more
-scalars_from zero (byte ∷ more) =
-    let next = scalar_of (byte ∷ more) in
-    let on = next ∷ scalars_from (next.bytes - 1) more in
-    pick (eqb next.bytes 0) [] on
+scalars_from zero (byte ∷ more) = from_next (scalar_of (byte ∷ more)) (λ (passed : ℕ). scalars_from passed more)
 
 -- the characters of a text up to the first byte that begins none
 abbrev pub scalars : List ℕ → List Scalar

@@ -1,71 +1,20 @@
-// Decimal numbers as they are typed, and signed numbers as they are shown.
+// Decimal numbers as they are typed.
 ghost use Rattle.std.specs.Prelude.{◌≡◌};
-ghost use Rattle.rules.specs.Unit.{is_digit};
-ghost use Rattle.terminal.specs.Number.{number_of, signed_of};
+ghost use Rattle.terminal.specs.Number.{number_of};
 
-// A number of 32 bits, or none.
-#[derive(Clone, Copy)]
-pub enum Number {
-    Is(u32),
-    Not,
-}
-
-// A signed number by its sign and its size.
-#[derive(Clone, Copy)]
-pub struct Signed {
-    pub negative: bool,
-    pub size: u64,
-}
-
-// Whether a byte is a digit.
-fn is_digit(byte: u8) -> bool
-    ensures { result ≡ is_digit byte }
-{
-    if byte < 48 {
-        return false;
-    }
-    byte <= 57
-}
-
-// The number that a word stands for.
-pub fn number_of(word: &[u8]) -> Number
+// The number of 32 bits that a word stands for. Not by std's `parse`, which takes a sign.
+pub fn number_of(word: &[u8]) -> Option<u32>
     ensures { result ≡ number_of word.now }
 {
-    if word.len() == 0 {
-        return Number::Not;
+    if word.is_empty() {
+        return None;
     }
-    let mut value: u64 = 0;
-    let mut i = 0;
-    while i < word.len() {
-        let byte = word[i];
-        if !is_digit(byte) {
-            return Number::Not;
+    let mut value: u32 = 0;
+    for byte in word {
+        if !byte.is_ascii_digit() {
+            return None;
         }
-        if 4294967295 < value {
-            return Number::Not;
-        }
-        value = value * 10 + (byte - 48) as u64;
-        i += 1;
+        value = value.checked_mul(10)?.checked_add(u32::from(*byte - b'0'))?;
     }
-    if 4294967295 < value {
-        return Number::Not;
-    }
-    Number::Is(value as u32)
-}
-
-// A number by its sign and its size.
-pub fn signed_of(code: i32) -> Signed
-    ensures { result ≡ signed_of code }
-{
-    if code < 0 {
-        let less = -1 - code;
-        return Signed {
-            negative: true,
-            size: less as u64 + 1,
-        };
-    }
-    Signed {
-        negative: false,
-        size: code as u64,
-    }
+    Some(value)
 }

@@ -2,12 +2,15 @@
 ghost use Rattle.std.specs.Prelude.{◌≡◌};
 ghost use Rattle.laws.specs.Scan.{before};
 ghost use Rattle.rules.specs.Unit.{is_equals};
-ghost use Rattle.terminal.specs.Word.{small_command_of, command_of, is_force, key_length, Spanned};
+ghost use Rattle.terminal.specs.Word.{command_of, is_force, key_length, Spanned};
 
 use octets::same;
 use scans::find_near;
 use std::env::{Env, FillError};
 use stores::put_number;
+
+// The unit between a key and its value.
+const EQUALS: u16 = b'=' as u16;
 
 // How many words a call has, the name of the tool among them.
 pub fn arg_count(rt: &impl Env) -> usize {
@@ -20,7 +23,7 @@ pub fn arg_count(rt: &impl Env) -> usize {
 }
 
 // What a call asks for.
-#[derive(Clone, Copy)]
+#[derive(Clone, Copy, Debug, PartialEq, Eq)]
 pub enum Command {
     Read,
     Write,
@@ -32,39 +35,21 @@ pub enum Command {
     Unknown,
 }
 
-// The command that a word names, of those that are asked about one word or none.
-fn small_command_of(word: &[u8]) -> Command
-    ensures { result ≡ small_command_of word.now }
-{
-    if same(word, b"status") {
-        return Command::Status;
-    }
-    if same(word, b"suffix") {
-        return Command::Suffix;
-    }
-    if same(word, b"help") {
-        return Command::Help;
-    }
-    Command::Unknown
-}
-
 // The command that a word names.
+#[tactic(auto, using(crate::proofs::Commands::commands))]
 pub fn command_of(word: &[u8]) -> Command
     ensures { result ≡ command_of word.now }
 {
-    if same(word, b"read") {
-        return Command::Read;
+    match word {
+        b"read" => Command::Read,
+        b"write" => Command::Write,
+        b"batch" => Command::Batch,
+        b"env" => Command::Env,
+        b"status" => Command::Status,
+        b"suffix" => Command::Suffix,
+        b"help" => Command::Help,
+        _ => Command::Unknown,
     }
-    if same(word, b"write") {
-        return Command::Write;
-    }
-    if same(word, b"batch") {
-        return Command::Batch;
-    }
-    if same(word, b"env") {
-        return Command::Env;
-    }
-    small_command_of(word)
 }
 
 // Whether a word asks for quotes round each argument.
@@ -78,36 +63,32 @@ pub fn is_force(word: &[u8]) -> bool
 fn find_equals(units: &[u16]) -> usize
     ensures { result ≡ before is_equals units.now }
 {
-    find_near(units, 61, 61)
+    find_near(units, EQUALS, EQUALS)
 }
 
 // How long an entry's key is. A key may begin with `=`, so the first unit is no end.
+#[tactic(auto, using(crate::proofs::Wording::keys))]
 pub fn key_length(units: &[u16]) -> usize
     ensures { result ≡ key_length units.now }
 {
-    if units.len() == 0 {
-        return 0;
+    match units {
+        [] => 0,
+        [_, rest @ ..] => 1 + find_equals(rest),
     }
-    1 + find_equals(&units[1..])
 }
 
 // Start and length of a part into a table, if they have a place there.
+#[tactic(auto, using(crate::proofs::Wording::places))]
 pub fn put_span(table: &mut [u32], at: usize, start: usize, len: usize) -> bool
     ensures { Spanned at start len result table.old table.new }
 {
-    if table.len() < 2 {
+    if table.len() < 2 || table.len() - 2 < at {
         return false;
     }
-    if table.len() - 2 < at {
+    let (Ok(start), Ok(len)) = (u32::try_from(start), u32::try_from(len)) else {
         return false;
-    }
-    if 4294967295 < start {
-        return false;
-    }
-    if 4294967295 < len {
-        return false;
-    }
-    put_number(table, at, start as u32);
-    put_number(table, at + 1, len as u32);
+    };
+    put_number(table, at, start);
+    put_number(table, at + 1, len);
     true
 }

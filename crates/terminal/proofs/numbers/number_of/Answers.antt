@@ -1,47 +1,24 @@
 -- `terminal::numbers::number_of` meets its contract. Assumes nothing.
-use Prim.Native.Nat.{◌≤◌}
-use native.Mathlib.Omega.{arith}
-use lib.ListN.{get_or}
-use mathlib.Core.Path.{◌∙◌, sym}
-use borrow.Author.Tests.{leb-true}
-use Rattle.terminal.proofs.Counting.{a_number, no_digit, none_counted, none_empty, one_counted, too_large}
-use Rattle.laws.specs.Choice.{both_true}
+use Rattle.std.proofs.Common.{arith, rules, sym, ◌∙◌}
+use Rattle.terminal.proofs.Counting.{a_number, no_digit, none_empty, one_counted, past}
 use Rattle.terminal.proofs.numbers.number_of.Goals as goal
 
--- the byte is a digit
-digit : (c : goal.Else-value-gt4294967295)
-    → let x = get_or c.args.word.now c.loop-i.i 0 in
-    (48 ≤ x) × (x ≤ 57)
-digit c =
-    let (a, b) = both_true _ _ (sym c.is_digit.ensures ∙ c.if-not-is_digit.false) in
-    (leb-true 48 _ a, leb-true _ 57 b)
+pub returns-then-is_empty : goal.returns-then-is_empty
+returns-then-is_empty c = sym (none_empty _ (search rules))
 
-pub returns-then-word-eq0 : goal.returns-then-word-eq0
-returns-then-word-eq0 c = sym (none_empty _ c.if-word-eq0.true)
+pub returns-then-not-is_ascii_digit : goal.returns-then-not-is_ascii_digit
+returns-then-not-is_ascii_digit c = sym (no_digit c.loop-byte.invariant c.loop-byte-test.true (λ h. grind arith))
 
-pub loop-i-init : goal.loop-i-init
-loop-i-init c = none_counted
+pub returns-in_err-checked_mul : goal.returns-in_err-checked_mul
+returns-in_err-checked_mul c =
+    search rules ∙ sym (past c.loop-byte.invariant c.loop-byte-test.true c.if-not-is_ascii_digit.ensures.cases (omega arith))
 
-pub returns-then-not-is_digit : goal.returns-then-not-is_digit
-returns-then-not-is_digit c = sym (no_digit c.loop-i.invariant c.loop-i-test.true c.is_digit.ensures c.if-not-is_digit.true)
+pub returns-in_err-value : goal.returns-in_err-value
+returns-in_err-value c =
+    search rules ∙ sym (past c.loop-byte.invariant c.loop-byte-test.true c.if-not-is_ascii_digit.ensures.cases (omega arith))
 
-pub returns-then-value-gt4294967295 : goal.returns-then-value-gt4294967295
-returns-then-value-gt4294967295 c = sym (too_large c.loop-i.invariant c.if-value-gt4294967295.true)
-
-pub overflow_sub-value : goal.overflow_sub-value
-overflow_sub-value c = (digit c).0
-
-pub overflow_cast-value : goal.overflow_cast-value
-overflow_cast-value c = omega (arith, digit c)
-
-pub overflow_add-value : goal.overflow_add-value
-overflow_add-value c = omega (arith, digit c)
-
-pub loop-i-preserved : goal.loop-i-preserved
-loop-i-preserved c = one_counted c.loop-i.invariant c.loop-i-test.true c.is_digit.ensures c.if-not-is_digit.false c.if-value-gt4294967295.false (omega (arith, digit c))
-
-pub returns-then-value-gt4294967295-2 : goal.returns-then-value-gt4294967295-2
-returns-then-value-gt4294967295-2 c = sym (too_large c.loop-i.invariant c.if-value-gt4294967295-2.true)
+pub loop-byte-preserved : goal.loop-byte-preserved
+loop-byte-preserved c = one_counted c.loop-byte.invariant c.loop-byte-test.true c.if-not-is_ascii_digit.ensures.cases (omega arith) (omega arith)
 
 pub returns : goal.returns
-returns c = a_number c.loop-i.invariant c.loop-i-test.false c.if-word-eq0.false c.if-value-gt4294967295-2.false
+returns c = a_number c.loop-byte.invariant c.loop-byte-test.false (search rules)

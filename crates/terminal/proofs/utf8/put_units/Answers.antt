@@ -1,15 +1,10 @@
 -- `terminal::utf8::put_units` meets its contract. Assumes nothing.
-use Rattle.terminal.specs.Utf8.{units_of}
-use Rattle.terminal.proofs.Placing.{first_stored, next_stored, all_placed}
-use borrow.Author.Tests.{le-ltb, lt-ltb}
+use Rattle.std.proofs.Common.{rules}
+use Rattle.terminal.proofs.Units.{one_unit, two_units}
 use Rattle.terminal.proofs.utf8.put_units.Goals as goal
 
-pub returns-then-value-lt65536 : goal.returns-then-value-lt65536
-unfolding units_of
-returns-then-value-lt65536 c = rw (lt-ltb _ 65536 c.if-value-lt65536.true) (all_placed (first_stored _ _ c.put.ensures))
+pub returns-in-Ok : goal.returns-in-Ok
+returns-in-Ok c = let e = c.in-Ok.ensures in one_unit _ _ e.0 (rw e.1 at c.put.ensures)
 
 pub returns : goal.returns
-unfolding units_of
-returns c =
-    let above = c.if-value-lt65536.false in
-    rw (le-ltb _ 65536 above) (all_placed (next_stored _ (first_stored _ _ c.put-2.ensures) c.put-3.ensures))
+returns c = two_units _ _ _ (search rules) c.put-2.ensures c.put-3.ensures
