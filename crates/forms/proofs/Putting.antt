@@ -9,20 +9,20 @@ use mathlib.Core.List.{List, [], ◌∷◌, ◌++◌, append_assoc, append-nil}
 use lib.Dec.{eqb}
 use lib.ListN.{length, get_or, take, drop, set, length-set, drop_of_length-le}
 use lib.Seq.{drop-cons, take-suc-set}
+use Rattle.std.specs.Prelude.{Option, Some, None}
 use Rattle.rules.specs.Choice.{pick, both}
 use Rattle.forms.specs.Form.{step_of}
-use Rattle.forms.specs.Text.{Taken, taken, ill, behind, at_end, onward, units_from, each_of, is_braces, text_of, Filled}
+use Rattle.forms.specs.Text.{behind, at_end, onward, units_from, each_of, is_braces, text_of, Filled}
 use Rattle.forms.specs.declared.steps.Spot.{Spot}
 use Rattle.forms.specs.declared.steps.Step.{Step}
-use Rattle.forms.specs.declared.texts.Filling.{Filling}
 
 -- two fronts one behind the other
-pub behind_behind : (a b : List ℕ) (t : Taken (List ℕ)) → behind (a ++ b) t ≡ behind a (behind b t)
-behind_behind a b (taken more) = ap taken (append_assoc a b more)
-behind_behind a b ill = refl
+pub behind_behind : (a b : List ℕ) (t : Option (List ℕ)) → behind (a ++ b) t ≡ behind a (behind b t)
+behind_behind a b (Some more) = ap Some (append_assoc a b more)
+behind_behind a b None = refl
 
 -- what a byte comes to, and what follows it
-next_byte : (colons : Bool) (word : List ℕ) (spot : Spot) (i : ℕ) {s : Step} → i < length word → s ≡ step_of colons spot (get_or word i 0)
+next_byte : (colons : Bool) (word : List ℕ) (spot : Spot) (i : ℕ) {s : Option Step} → i < length word → s ≡ step_of colons spot (get_or word i 0)
     → units_from colons spot (drop i word) ≡ onward s (λ next. units_from colons next (drop (i + 1) word))
 unfolding units_from
 next_byte colons word spot i h e = rw (add-one i, drop-cons word i 0 h, ← e)
@@ -42,7 +42,7 @@ module _ {colons : Bool} {word : List ℕ} {to : ℕ} {before : List ℕ} where
 
   -- a byte that makes a unit whole
   pub one_put : {after : List ℕ} {spot : Spot} {n i unit : ℕ} → Putting colons word to before after spot n i → i < length word
-      → Step.Unit unit ≡ step_of colons spot (get_or word i 0) → Putting colons word to before (set after (to + n) unit) Spot.Outside (n + 1) (i + 1)
+      → Some (Step.Unit unit) ≡ step_of colons spot (get_or word i 0) → Putting colons word to before (set after (to + n) unit) Spot.Outside (n + 1) (i + 1)
   one_put {after} {spot} {n} {i} {unit} p h e =
       let m : to + n < length after = omega (arith, p.short, p.room, p.same) in
       let f : take (to + (n + 1)) (set after (to + n) unit) ≡ take (to + n) after ++ (unit ∷ []) = rw (add-one n, add-suc to n) (take-suc-set after (to + n) unit m) in
@@ -56,13 +56,13 @@ module _ {colons : Bool} {word : List ℕ} {to : ℕ} {before : List ℕ} where
 
   -- a byte inside a form
   pub none_yet : {after : List ℕ} {spot next : Spot} {n i : ℕ} → Putting colons word to before after spot n i → i < length word
-      → Step.Still next ≡ step_of colons spot (get_or word i 0) → Putting colons word to before after next n (i + 1)
+      → Some (Step.Still next) ≡ step_of colons spot (get_or word i 0) → Putting colons word to before after next n (i + 1)
   none_yet {after} {spot} {next} {n} {i} p h e =
       record { short = omega (arith, p.short); within = omega arith; room = p.room; same = p.same; still = rw (← next_byte colons word spot i h e) p.still }
 
   -- a byte that is in no form
   pub no_form : {after : List ℕ} {spot : Spot} {n i : ℕ} → Putting colons word to before after spot n i → i < length word
-      → Step.Ill ≡ step_of colons spot (get_or word i 0) → Filled (each_of colons word) (length word) to Filling.Ill before after
+      → None ≡ step_of colons spot (get_or word i 0) → Filled (each_of colons word) (length word) to None before after
   no_form {after} {spot} {n} {i} p h e =
       record { fills = rw (next_byte colons word spot i h e) at p.still; short = zero-le; same = p.same }
 
@@ -73,12 +73,12 @@ module _ {colons : Bool} {word : List ℕ} {to : ℕ} {before : List ℕ} where
 
   -- the end between two units
   pub all_put : {after : List ℕ} {n i : ℕ} → Putting colons word to before after Spot.Outside n i → length word ≤ i
-      → Filled (each_of colons word) (length word) to (Filling.Units n) before after
+      → Filled (each_of colons word) (length word) to (Some n) before after
   all_put p h = record { fills = rw append-nil at (at_end_lem p h); short = omega (arith, p.short, p.within); same = p.same }
 
   -- the end inside a form
-  pub cut_form : {after : List ℕ} {spot : Spot} {n i : ℕ} → Putting colons word to before after spot n i → length word ≤ i → at_end spot ≡ ill
-      → Filled (each_of colons word) (length word) to Filling.Ill before after
+  pub cut_form : {after : List ℕ} {spot : Spot} {n i : ℕ} → Putting colons word to before after spot n i → length word ≤ i → at_end spot ≡ None
+      → Filled (each_of colons word) (length word) to None before after
   cut_form p h e = record { fills = rw e at (at_end_lem p h); short = zero-le; same = p.same }
 
 -- ---- the empty text
@@ -101,24 +101,24 @@ braces_other (x ∷ y ∷ z ∷ more) e = refl
 
 module _ (colons : Bool) (word : List ℕ) (to : ℕ) (before : List ℕ) where
   -- an empty word is no text
-  pub no_text : length word ≡ 0 → Filled (text_of colons word) (length word) to Filling.Ill before before
+  pub no_text : length word ≡ 0 → Filled (text_of colons word) (length word) to None before before
   unfolding text_of
   no_text e = record { fills = ap (behind (take to before)) (sym (none word e)); short = zero-le; same = refl }
     where
-      none : (xs : List ℕ) → length xs ≡ 0 → text_of colons xs ≡ ill
+      none : (xs : List ℕ) → length xs ≡ 0 → text_of colons xs ≡ None
       none [] e = refl
       none (x ∷ xs) e = absurd (omega arith)
 
-  some_word : (xs : List ℕ) → (length xs ≡ 0 → ⊥) → text_of colons xs ≡ pick (is_braces xs) (taken []) (each_of colons xs)
+  some_word : (xs : List ℕ) → (length xs ≡ 0 → ⊥) → text_of colons xs ≡ pick (is_braces xs) (Some []) (each_of colons xs)
   unfolding text_of
   some_word [] e = absurd (e refl)
   some_word (x ∷ xs) e = refl
 
   -- `{}` is the empty text
-  pub empty_text : (length word ≡ 0 → ⊥) → is_braces word ≡ true → Filled (text_of colons word) (length word) to (Filling.Units 0) before before
+  pub empty_text : (length word ≡ 0 → ⊥) → is_braces word ≡ true → Filled (text_of colons word) (length word) to (Some 0) before before
   empty_text e b = record { fills = rw (some_word word e, b, append-nil, add-zero); short = zero-le; same = refl }
 
   -- any other is its units
-  pub full_text : (length word ≡ 0 → ⊥) → is_braces word ≡ false → {r : Filling} {after : List ℕ} → Filled (each_of colons word) (length word) to r before after
+  pub full_text : (length word ≡ 0 → ⊥) → is_braces word ≡ false → {r : Option ℕ} {after : List ℕ} → Filled (each_of colons word) (length word) to r before after
       → Filled (text_of colons word) (length word) to r before after
   full_text e b f = rw (some_word word e, b) f

@@ -1,114 +1,87 @@
 // A text's one form: units 33 to 126 but braces stand for themselves, every other is `{hex}`. Where colons have a meaning of their own, a colon is `{3a}`.
-ghost use Rattle.std.specs.Prelude.{◌≡◌};
+ghost use Rattle.std.specs.Prelude.{◌≡◌, ◌<◌, IfSome};
 ghost use Rattle.forms.specs.Form.{is_plain, hex_value, step_of, step_outside, step_opened, step_inside};
 
 // Where a reader of a form stands: between two units, behind a `{`, or behind digits, with their value.
-#[derive(Clone, Copy)]
+#[derive(Clone, Copy, Debug, PartialEq, Eq)]
 pub enum Spot {
     Outside,
     Opened,
     Inside(u16),
 }
 
-// What the next byte comes to: a unit is whole, the form goes on, or it is no form.
-#[derive(Clone, Copy)]
+// What the next byte of a form comes to: a unit is whole, or the form goes on.
+#[derive(Clone, Copy, Debug, PartialEq, Eq)]
 pub enum Step {
     Unit(u16),
     Still(Spot),
-    Ill,
 }
 
 // Whether a unit stands for itself.
+#[tactic(auto, using(std::proofs::lemmas::Bool::Decides::nat_tests), unfolding(crate::specs::Form::is_plain))]
 pub fn is_plain(colons: bool, unit: u16) -> bool
     ensures { result ≡ is_plain colons unit }
 {
-    if unit < 33 {
-        return false;
+    match u8::try_from(unit) {
+        Ok(b'{' | b'}') => false,
+        Ok(b':') => colons,
+        Ok(byte) => byte.is_ascii_graphic(),
+        Err(_) => false,
     }
-    if unit > 126 {
-        return false;
-    }
-    if unit == 123 {
-        return false;
-    }
-    if unit == 125 {
-        return false;
-    }
-    if unit == 58 {
-        return colons;
-    }
-    true
 }
 
-// The value of a hexadecimal digit in lower case, and 16 for any other byte.
-fn hex_value(byte: u8) -> u16
-    ensures { result ≡ hex_value byte }
+// The value of a hexadecimal digit in lower case.
+#[tactic(auto, using(std::proofs::lemmas::Bool::Decides::nat_tests), unfolding(crate::specs::Form::hex_value))]
+fn hex_value(byte: u8) -> Option<u16>
+    ensures value { result ≡ hex_value byte }
+    ensures small { IfSome result (λ digit. digit < 16) }
 {
-    if byte < 48 {
-        return 16;
+    match byte {
+        b'0'..=b'9' => Some(u16::from(byte - b'0')),
+        b'a'..=b'f' => Some(u16::from(byte - b'a' + 10)),
+        _ => None,
     }
-    if byte <= 57 {
-        return (byte - 48) as u16;
-    }
-    if byte < 97 {
-        return 16;
-    }
-    if byte <= 102 {
-        return (byte - 87) as u16;
-    }
-    16
 }
 
 // Between two units.
-fn step_outside(colons: bool, byte: u8) -> Step
+fn step_outside(colons: bool, byte: u8) -> Option<Step>
     ensures { result ≡ step_outside colons byte }
 {
-    let unit = byte as u16;
+    let unit = u16::from(byte);
     if is_plain(colons, unit) {
-        return Step::Unit(unit);
+        Some(Step::Unit(unit))
+    } else if byte == b'{' {
+        Some(Step::Still(Spot::Opened))
+    } else {
+        None
     }
-    if byte == 123 {
-        return Step::Still(Spot::Opened);
-    }
-    Step::Ill
 }
 
 // Behind a `{`.
-fn step_opened(byte: u8) -> Step
+fn step_opened(byte: u8) -> Option<Step>
     ensures { result ≡ step_opened byte }
 {
-    let digit = hex_value(byte);
-    if digit < 16 {
-        return Step::Still(Spot::Inside(digit));
-    }
-    Step::Ill
+    let digit = hex_value(byte)?;
+    Some(Step::Still(Spot::Inside(digit)))
 }
 
 // Behind digits of the value given. No digit follows a single 0 or four digits, so that a number has one form.
-fn step_inside(colons: bool, value: u16, byte: u8) -> Step
+fn step_inside(colons: bool, value: u16, byte: u8) -> Option<Step>
     ensures { result ≡ step_inside colons value byte }
 {
-    if byte == 125 {
-        if is_plain(colons, value) {
-            return Step::Ill;
+    match byte {
+        b'}' if is_plain(colons, value) => None,
+        b'}' => Some(Step::Unit(value)),
+        _ if value == 0 || value > 0xfff => None,
+        _ => {
+            let digit = hex_value(byte)?;
+            Some(Step::Still(Spot::Inside(value * 16 + digit)))
         }
-        return Step::Unit(value);
     }
-    if value == 0 {
-        return Step::Ill;
-    }
-    if value > 4095 {
-        return Step::Ill;
-    }
-    let digit = hex_value(byte);
-    if digit < 16 {
-        return Step::Still(Spot::Inside(value * 16 + digit));
-    }
-    Step::Ill
 }
 
-// What a byte comes to at a spot of a form.
-pub fn take_byte(colons: bool, spot: Spot, byte: u8) -> Step
+// What a byte comes to at a spot of a form, where it is one.
+pub fn take_byte(colons: bool, spot: Spot, byte: u8) -> Option<Step>
     ensures { result ≡ step_of colons spot byte }
 {
     match spot {
