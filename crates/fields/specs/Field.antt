@@ -1,10 +1,9 @@
 -- The fields of words, and what a text and a table of numbers hold once they are taken. Assumes nothing.
-use Rattle.std.specs.Prelude.{ℕ, ◌+◌, ◌/◌, ◌%◌, ◌≤◌, ◌<◌, ◌≡◌, List, [], ◌∷◌, ◌++◌, length, take}
-use Rattle.forms.specs.Text.{Taken, taken, ill, text_of}
+use Rattle.std.specs.Prelude.{ℕ, ◌+◌, ◌/◌, ◌%◌, ◌≤◌, ◌<◌, ◌≡◌, List, [], ◌∷◌, ◌++◌, length, take, Option, Some, None, IfSome}
+use Rattle.forms.specs.Text.{text_of}
 use Rattle.forms.specs.Number.{number_of}
 use Rattle.fields.specs.declared.taking.Field.{Field}
 use Rattle.fields.specs.declared.taking.Held.{Held}
-use Rattle.fields.specs.declared.taking.Holding.{Holding}
 
 -- numbers, and a text that they name parts of
 pub record Flat : Type 0 where
@@ -12,9 +11,9 @@ pub record Flat : Type 0 where
   pub text : List ℕ
 
 -- what follows from what was taken; nothing follows what is not in its form
-abbrev pub follow : {A B : Type 0} → Taken A → (A → Taken B) → Taken B
-follow (taken a) next = next a
-follow ill next = ill
+abbrev pub follow : {A B : Type 0} → Option A → (A → Option B) → Option B
+follow (Some a) next = next a
+follow None next = None
 
 -- numbers behind those that there are
 abbrev pub counted : Flat → List ℕ → Flat
@@ -25,11 +24,11 @@ abbrev pub spanned : Flat → List ℕ → Flat
 spanned flat units = record { numbers = flat.numbers ++ (length flat.text ∷ length units ∷ []); text = flat.text ++ units }
 
 -- what there is with one field more: a number, the halves of a wide one, or a text
-unfoldable pub field_on : Field → Flat → List ℕ → Taken Flat
+unfoldable pub field_on : Field → Flat → List ℕ → Option Flat
 unfolding number_of text_of
-field_on (Field.Count most) flat word = follow (number_of most word) (λ n. taken (counted flat (n ∷ [])))
-field_on Field.Wide flat word = follow (number_of 18446744073709551615 word) (λ n. taken (counted flat (n % 4294967296 ∷ n / 4294967296 ∷ [])))
-field_on (Field.Text colons) flat word = follow (text_of colons word) (λ units. taken (spanned flat units))
+field_on (Field.Count most) flat word = follow (number_of most word) (λ n. Some (counted flat (n ∷ [])))
+field_on Field.Wide flat word = follow (number_of 18446744073709551615 word) (λ n. Some (counted flat (n % 4294967296 ∷ n / 4294967296 ∷ [])))
+field_on (Field.Text colons) flat word = follow (text_of colons word) (λ units. Some (spanned flat units))
 
 -- ---- contracts
 
@@ -38,9 +37,9 @@ abbrev pub held_in : Held → List ℕ → List ℕ → Flat
 held_in h text numbers = record { numbers = take h.count numbers; text = take h.units text }
 
 -- what an answer says is held
-abbrev pub holding_said : Holding → List ℕ → List ℕ → Taken Flat
-holding_said (Holding.Is h) text numbers = taken (held_in h text numbers)
-holding_said Holding.Ill text numbers = ill
+abbrev pub holding_said : Option Held → List ℕ → List ℕ → Option Flat
+holding_said (Some h) text numbers = Some (held_in h text numbers)
+holding_said None text numbers = None
 
 -- numbers are put behind those that are held, and so many units are held then
 pub record Pushed (h : Held) (new : List ℕ) (units : ℕ) (r : Held) (before after : List ℕ) : Type 0 where
@@ -55,11 +54,10 @@ pub record Room (h : Held) (size text numbers : ℕ) : Type 0 where
   pub lists : h.count + size < numbers
 
 -- what so many bytes come to takes no more units, and no more numbers but one
-abbrev pub grows_in : Held → ℕ → Holding → Type 0
-grows_in h size (Holding.Is k) = (k.units ≤ h.units + size) × (k.count ≤ h.count + size + 1)
-grows_in h size Holding.Ill = Unit {0}
+abbrev pub grows_in : Held → ℕ → Option Held → Type 0
+grows_in h size r = IfSome r (λ k. (k.units ≤ h.units + size) × (k.count ≤ h.count + size + 1))
 
 -- what there is with more behind it is held in front of the lent text and table
-pub record Grew (t : Taken Flat) (size : ℕ) (h : Held) (r : Holding) (text numbers : List ℕ) : Type 0 where
+pub record Grew (t : Option Flat) (size : ℕ) (h : Held) (r : Option Held) (text numbers : List ℕ) : Type 0 where
   pub says : holding_said r text numbers ≡ t
   pub within : grows_in h size r

@@ -2,45 +2,35 @@
 ghost use Rattle.std.specs.Prelude.{◌≡◌, ◌+◌, ◌*◌, get_or, drop};
 ghost use Rattle.rules.specs.Record.{part};
 
+use crate::taking::HALF;
 use units::parts::part_of;
 
 // The number at a place.
 pub fn number_at(numbers: &[u32], at: usize) -> u32
     ensures { result ≡ get_or numbers.now at 0 }
 {
-    if at < numbers.len() {
-        return numbers[at];
-    }
-    0
+    numbers.get(at).copied().unwrap_or(0)
 }
 
 // A number of 64 bits, whose low half stands at a place and whose high half behind it.
 pub fn wide_at(numbers: &[u32], at: usize) -> u64
     ensures { result ≡ get_or numbers.now (at + 1) 0 * 4294967296 + get_or numbers.now at 0 }
 {
-    if numbers.len() <= at {
-        return 0;
-    }
-    let high = number_at(numbers, at + 1) as u64;
-    high * 4294967296 + number_at(numbers, at) as u64
+    let rest = rest_from(numbers, at);
+    u64::from(number_at(rest, 1)) * HALF + u64::from(number_at(rest, 0))
 }
 
 // The text whose start stands at a place and whose length behind it.
 pub fn text_at<'a>(text: &'a [u16], numbers: &[u32], at: usize) -> &'a [u16]
     ensures { result.now ≡ part text.now (get_or numbers.now at 0) (get_or numbers.now (at + 1) 0) }
 {
-    if numbers.len() <= at {
-        return &text[..0];
-    }
-    part_of(text, numbers[at], number_at(numbers, at + 1))
+    let rest = rest_from(numbers, at);
+    part_of(text, number_at(rest, 0), number_at(rest, 1))
 }
 
 // The numbers from a place on.
 pub fn rest_from(numbers: &[u32], at: usize) -> &[u32]
     ensures { result.now ≡ drop at numbers.now }
 {
-    if numbers.len() <= at {
-        return &numbers[..0];
-    }
-    &numbers[at..]
+    numbers.get(at..).unwrap_or_default()
 }
