@@ -10,20 +10,19 @@ use mathlib.Core.Bool.{Bool, true, false}
 use mathlib.Core.List.{List, [], ◌∷◌}
 use lib.Dec.{eqb, leb, ltb}
 use lib.ListN.{length, get_or, take, drop, length-drop, length-take, drop_of_length-le}
-use lib.Seq.{drop-cons, drop-drop}
+use lib.Seq.{drop-drop}
+use Rattle.std.specs.List.{position, position_or_len}
 use borrow.Author.Tests.{le-leb, lt-leb, lt-ltb, le-ltb}
-use Rattle.std.specs.Prelude.{Some, None}
+use Rattle.std.specs.Prelude.{Some, None, cond, not, option_map}
+use Rattle.std.proofs.lemmas.Bool.Decides.{nat_tests}
 use Rattle.rules.specs.Choice.{pick, flip, equal}
-use Rattle.rules.specs.Record.{part}
 use Rattle.laws.specs.Store.{part_is}
 use Rattle.laws.specs.Scan.{leading, before, leading_in}
-use Rattle.forms.specs.Text.{ill}
 use Rattle.words.specs.Word.{onto, words_of, words_at}
 use Rattle.fields.specs.Field.{held_in, Grew}
 use Rattle.words.specs.Shape.{shape_at, shape_on}
 use Rattle.words.specs.Line.{words_by, none, verb_in, letters_in, row_of, line_on, Ends, Took, Lined}
 use Rattle.fields.specs.declared.taking.Held.{Held}
-use Rattle.fields.specs.declared.taking.Holding.TheVariants as Holding
 
 -- ---- where a word ends
 
@@ -98,7 +97,7 @@ module _ {letters line : List ℕ} {start : ℕ} {text₀ numbers₀ : List ℕ}
   module _ {text numbers text' numbers' : List ℕ} {at i end : ℕ} {h : Held} (g : Going letters line start text₀ numbers₀ text numbers at i h) (e : Ends line at end) where
     -- a word more
     pub one_gone : {k : Held} → at ≤ length line → length line ≤ length text₀ → length line ≤ length numbers₀ → length text' ≡ length text → length numbers' ≡ length numbers
-        → Grew (shape_on (shape_at letters i) (held_in h text numbers) (take (end - at) (drop at line))) (length (take (end - at) (drop at line))) h (Holding.Is k) text' numbers'
+        → Grew (shape_on (shape_at letters i) (held_in h text numbers) (take (end - at) (drop at line))) (length (take (end - at) (drop at line))) h (Some k) text' numbers'
         → Going letters line start text₀ numbers₀ text' numbers' (end + 1) (i + 1) k
     unfolding words_by
     one_gone l t n a b w =
@@ -115,20 +114,25 @@ module _ {letters line : List ℕ} {start : ℕ} {text₀ numbers₀ : List ℕ}
           still = sym (rw (e.splits, ← w.says)) ∙ g.still;
         }
 
+    -- a word that no letter stands for
+    pub no_letter : None ≡ shape_at letters i → Took (words_by letters 0 none (words_at line start)) None text' numbers'
+    unfolding words_by shape_on
+    no_letter n = record { says = sym (rw (e.splits, ← n)) ∙ g.still; within = tt }
+
     -- a word that is in no form
-    pub ill_gone : Grew (shape_on (shape_at letters i) (held_in h text numbers) (take (end - at) (drop at line))) (length (take (end - at) (drop at line))) h Holding.Ill text' numbers'
-        → Took (words_by letters 0 none (words_at line start)) Holding.Ill text' numbers'
+    pub ill_gone : Grew (shape_on (shape_at letters i) (held_in h text numbers) (take (end - at) (drop at line))) (length (take (end - at) (drop at line))) h None text' numbers'
+        → Took (words_by letters 0 none (words_at line start)) None text' numbers'
     unfolding words_by
     ill_gone w = record { says = sym (rw (e.splits, ← w.says)) ∙ g.still; within = tt }
 
   module _ {text numbers : List ℕ} {at i : ℕ} {h : Held} (g : Going letters line start text₀ numbers₀ text numbers at i h) (l : length line < at) where
     -- a word is missing
-    pub few_gone : i + 1 < length letters → Took (words_by letters 0 none (words_at line start)) Holding.Ill text numbers
+    pub few_gone : i + 1 < length letters → Took (words_by letters 0 none (words_at line start)) None text numbers
     unfolding words_by
     few_gone m = record { says = sym (rw (no_word line at l, lt-ltb (i + 1) (length letters) m)) ∙ g.still; within = tt }
 
     -- no word is left
-    pub all_gone : length letters ≤ i + 1 → Took (words_by letters 0 none (words_at line start)) (Holding.Is h) text numbers
+    pub all_gone : length letters ≤ i + 1 → Took (words_by letters 0 none (words_at line start)) (Some h) text numbers
     unfolding words_by
     all_gone m = record { says = sym (rw (no_word line at l, le-ltb (i + 1) (length letters) m)) ∙ g.still; within = (g.texts, g.lists) }
 
@@ -138,47 +142,29 @@ module _ {letters line : List ℕ} {start : ℕ} {text₀ numbers₀ : List ℕ}
 pub verb_is : (row : List ℕ) → verb_in row ≡ take (space_in row) row
 verb_is row = rw (first_word row)
 
--- a row's letters
-pub letters_are : (row : List ℕ) {verb end : ℕ} → verb ≡ space_in row → verb < length row → Ends row (verb + 1) end → part row (verb + 1) (end - (verb + 1)) ≡ letters_in row
-unfolding words_at
-letters_are row {verb} {end} e h s =
-    let w = rw (le-leb (verb + 1) (length row) (omega arith)) at s.splits in
-    rw (first_word row, ← e, lt-ltb verb (length row) h, w)
+-- a row's letters: its second word
+pub letters_are : (row : List ℕ) → letters_in row ≡ take (space_in (drop (space_in row + 1) row)) (drop (space_in row + 1) row)
+unfolding leading
+letters_are row = rw (first_word row) (go (dec_le (length row) (space_in row)))
+  where
+    rest : List ℕ
+    rest = drop (space_in row + 1) row
 
--- a row without any
-pub no_letters : (row : List ℕ) {verb : ℕ} → verb ≡ space_in row → length row ≤ verb → [] ≡ letters_in row
-no_letters row {verb} e h = rw (first_word row, ← e, le-ltb verb (length row) h)
+    go : Dec (length row ≤ space_in row) → get_or (pick (ltb (space_in row) (length row)) (words_of rest) []) 0 [] ≡ take (space_in rest) rest
+    go (yes l) = rw (le-ltb (space_in row) (length row) l, drop_of_length-le row {i = space_in row + 1} (omega arith))
+    go (no l) = rw (lt-ltb (space_in row) (length row) (lt_of_not-le l), first_word rest)
 
--- so many rows have another verb
-pub record Seeking (rows : List (List ℕ)) (word : List ℕ) (i : ℕ) : Type 0 where
-  pub within : i ≤ length rows
-  pub still : row_of rows word ≡ i + row_of (drop i rows) word
+-- a row more in front of those that the library looks through
+one_more : (b : Bool) (n l : ℕ) → pick b (Some 0) (option_map suc (cond (ltb n l) (Some n) None))
+    ≡ cond (ltb (cond (not b) (1 + n) 0) (suc l)) (Some (cond (not b) (1 + n) 0)) None
+one_more true n l = grind (arith, nat_tests)
+one_more false n l = grind (arith, nat_tests)
 
-module _ {rows : List (List ℕ)} {word : List ℕ} where
-  -- at the start none have
-  pub none_sought : Seeking rows word 0
-  none_sought = record { within = omega arith; still = omega arith }
-
-  -- one more
-  pub one_sought : {i : ℕ} → Seeking rows word i → i < length rows → equal (verb_in (get_or rows i [])) word ≡ false → Seeking rows word (i + 1)
-  unfolding row_of
-  one_sought {i} s h e =
-      let f : row_of (drop i rows) word ≡ 1 + row_of (drop (i + 1) rows) word = rw (add-one i, drop-cons rows i [] h, e) (omega arith) in
-      record { within = omega arith; still = omega (arith, s.still) }
-
-  -- the one
-  pub found : {i : ℕ} → Seeking rows word i → i < length rows → equal (verb_in (get_or rows i [])) word ≡ true → i ≡ row_of rows word
-  unfolding row_of
-  found {i} s h e =
-      let f : row_of (drop i rows) word ≡ 0 = rw (drop-cons rows i [] h, e) in
-      omega (arith, s.still)
-
-  -- none has it
-  pub not_found : {i : ℕ} → Seeking rows word i → length rows ≤ i → i ≡ row_of rows word
-  unfolding row_of
-  not_found {i} s h =
-      let f : row_of (drop i rows) word ≡ 0 = rw (drop_of_length-le rows {i = i} h) in
-      omega (arith, s.still)
+-- the library's search for a row
+pub row_found : (rows : List (List ℕ)) (word : List ℕ) → row_of rows word ≡ position (λ row. equal (verb_in row) word) rows
+unfolding row_of
+row_found [] word = refl
+row_found (row ∷ rows) word = rw (row_found rows word) (one_more (equal (verb_in row) word) (position_or_len (λ row. equal (verb_in row) word) rows) (length rows))
 
 -- ---- a whole line
 
@@ -189,23 +175,23 @@ words_are line end e = let z : end - 0 ≡ end = omega arith in rw (le-leb 0 (le
 
 module _ (rows : List (List ℕ)) (line : List ℕ) (longest : ℕ) {text numbers : List ℕ} where
   -- one that is too long
-  pub long_line : longest < length line → Lined (pick (ltb longest (length line)) ill (line_on rows line)) None text numbers
+  pub long_line : longest < length line → Lined (pick (ltb longest (length line)) None (line_on rows line)) None text numbers
   long_line h = record { says = rw (lt-ltb longest (length line) h); within = tt }
 
-  module _ {end row : ℕ} (l : length line ≤ longest) (e : Ends line 0 end) (r : row ≡ row_of rows (take end line)) where
+  module _ {end : ℕ} (l : length line ≤ longest) (e : Ends line 0 end) where
     -- one whose verb no row has
-    pub no_row : length rows ≤ row → Lined (pick (ltb longest (length line)) ill (line_on rows line)) None text numbers
+    pub no_row : None ≡ row_of rows (take end line) → Lined (pick (ltb longest (length line)) None (line_on rows line)) None text numbers
     unfolding line_on
-    no_row h = record { says = rw (le-ltb longest (length line) l, words_are line end e, ← r, le-ltb row (length rows) h); within = tt }
+    no_row r = record { says = rw (le-ltb longest (length line) l, words_are line end e, ← r); within = tt }
 
-    module _ {letters : List ℕ} (h : row < length rows) (a : letters ≡ letters_in (get_or rows row [])) where
+    module _ {row : ℕ} {letters : List ℕ} (r : Some row ≡ row_of rows (take end line)) (a : letters ≡ letters_in (get_or rows row [])) where
       -- one whose words are not in their forms
-      pub ill_line : Took (words_by letters 0 none (words_at line (end + 1))) Holding.Ill text numbers → Lined (pick (ltb longest (length line)) ill (line_on rows line)) None text numbers
+      pub ill_line : Took (words_by letters 0 none (words_at line (end + 1))) None text numbers → Lined (pick (ltb longest (length line)) None (line_on rows line)) None text numbers
       unfolding line_on
-      ill_line w = record { says = rw (le-ltb longest (length line) l, words_are line end e, ← r, lt-ltb row (length rows) h, ← a, ← w.says); within = tt }
+      ill_line w = record { says = rw (le-ltb longest (length line) l, words_are line end e, ← r, ← a, ← w.says); within = tt }
 
       -- one whose words are
-      pub line_by : {k : Held} → Took (words_by letters 0 none (words_at line (end + 1))) (Holding.Is k) text numbers
-          → Lined (pick (ltb longest (length line)) ill (line_on rows line)) (Some (record { row = row; held = k })) text numbers
+      pub line_by : {k : Held} → Took (words_by letters 0 none (words_at line (end + 1))) (Some k) text numbers
+          → Lined (pick (ltb longest (length line)) None (line_on rows line)) (Some (record { row = row; held = k })) text numbers
       unfolding line_on
-      line_by w = record { says = rw (le-ltb longest (length line) l, words_are line end e, ← r, lt-ltb row (length rows) h, ← a, ← w.says); within = w.within }
+      line_by w = record { says = rw (le-ltb longest (length line) l, words_are line end e, ← r, ← a, ← w.says); within = w.within }

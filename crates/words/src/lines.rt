@@ -1,15 +1,13 @@
 // A line taken apart by its row of a table.
 ghost use Rattle.std.specs.Prelude.{◌≤◌, ltb, length};
 ghost use Rattle.rules.specs.Choice.{pick};
-ghost use Rattle.forms.specs.Text.{ill};
 ghost use Rattle.words.specs.Word.{words_at};
 ghost use Rattle.words.specs.Line.{Ends, Roomy, Took, Lined, none, words_by, line_on, longest_in};
 
 use crate::rows::{letters_of, row_of};
 use crate::shapes::{shape_at, take_word};
-use fields::taking::{Held, Holding};
+use fields::taking::Held;
 use octets::find;
-use units::parts::smaller;
 
 // The most bytes of a line.
 const LONGEST: usize = 400000;
@@ -26,8 +24,7 @@ pub fn word_end(line: &[u8], at: usize) -> usize
     requires { at ≤ length line.now }
     ensures { Ends line.now at result }
 {
-    let rest = &line[at..];
-    at + find(rest, 32)
+    at + find(&line[at..], b' ')
 }
 
 // All words from an index on, by their letters.
@@ -37,54 +34,42 @@ fn take_words(
     letters: &[u8],
     text: &mut [u16],
     numbers: &mut [u32],
-) -> Holding
+) -> Option<Held>
     requires { Roomy (length line.now) start (length text.old) (length numbers.old) }
     ensures { Took (words_by letters.now 0 none (words_at line.now start)) result text.new numbers.new }
 {
     let mut at = start;
     let mut i = 0;
-    let mut h = Held { units: 0, count: 0 };
+    let mut held = Held { units: 0, count: 0 };
     while at <= line.len() {
         let end = word_end(line, at);
-        let shape = shape_at(letters, i);
-        match take_word(shape, &line[at..end], text, numbers, h) {
-            Holding::Is(k) => {
-                h = k;
-                at = end + 1;
-                i += 1;
-            }
-            Holding::Ill => {
-                return Holding::Ill;
-            }
-        }
+        let shape = shape_at(letters, i)?;
+        held = take_word(shape, &line[at..end], text, numbers, held)?;
+        at = end + 1;
+        i += 1;
     }
     if i + 1 < letters.len() {
-        return Holding::Ill;
+        None
+    } else {
+        Some(held)
     }
-    Holding::Is(h)
 }
 
-// A whole line. One that is longer than what is lent, or than any line may be, is bad.
+// A whole line. One that is longer than what is lent, or than any line may be, is none.
 pub fn take_line(
     rows: &[[u8; 20]],
     line: &[u8],
     text: &mut [u16],
     numbers: &mut [u32],
 ) -> Option<Line>
-    ensures { Lined (pick (ltb (longest_in (length text.old) (length numbers.old)) (length line.now)) ill (line_on rows.now line.now)) result text.new numbers.new }
+    ensures { Lined (pick (ltb (longest_in (length text.old) (length numbers.old)) (length line.now)) None (line_on rows.now line.now)) result text.new numbers.new }
 {
-    let longest = smaller(LONGEST, smaller(text.len(), numbers.len()));
+    let longest = LONGEST.min(text.len().min(numbers.len()));
     if longest < line.len() {
         return None;
     }
     let end = word_end(line, 0);
-    let row = row_of(rows, &line[..end]);
-    if rows.len() <= row {
-        return None;
-    }
-    let letters = letters_of(&rows[row]);
-    match take_words(line, end + 1, letters, text, numbers) {
-        Holding::Is(held) => Some(Line { row, held }),
-        Holding::Ill => None,
-    }
+    let row = row_of(rows, &line[..end])?;
+    let held = take_words(line, end + 1, letters_of(&rows[row]), text, numbers)?;
+    Some(Line { row, held })
 }

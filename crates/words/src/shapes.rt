@@ -4,42 +4,38 @@ ghost use Rattle.fields.specs.Field.{Room, Grew, held_in};
 ghost use Rattle.words.specs.Shape.{shape_of, shape_at, shape_on};
 ghost use Rattle.words.specs.declared.shapes.Shape.TheVariants as Shape;
 
-use fields::taking::{Field, Held, Holding, take_field};
+use fields::taking::{Field, Held, take_field};
 use octets::find;
-use units::parts::smaller;
 
 // What a word is.
-#[derive(Clone, Copy)]
+#[derive(Clone, Copy, Debug, PartialEq, Eq)]
 pub enum Shape {
     One(Field),
     Two(Field, Field),
-    Nothing,
 }
 
 // The shape that a letter stands for: a flag, a number, a wide number, a text, an argument `K:TEXT`, or an entry `KEY:VALUE`.
-fn shape_of(letter: u8) -> Shape
+fn shape_of(letter: u8) -> Option<Shape>
     ensures { result ≡ shape_of letter }
 {
-    match letter {
+    let shape = match letter {
         b'f' => Shape::One(Field::Count(1)),
-        b'n' => Shape::One(Field::Count(4294967295)),
+        b'n' => Shape::One(Field::Count(u32::MAX)),
         b'w' => Shape::One(Field::Wide),
         b't' => Shape::One(Field::Text(true)),
-        b'a' => Shape::Two(Field::Count(4294967295), Field::Text(true)),
+        b'a' => Shape::Two(Field::Count(u32::MAX), Field::Text(true)),
         b'e' => Shape::Two(Field::Text(false), Field::Text(false)),
-        _ => Shape::Nothing,
-    }
+        _ => return None,
+    };
+    Some(shape)
 }
 
 // The shape of the word with an index: the last letter stands for all words from there on.
-pub fn shape_at(letters: &[u8], index: usize) -> Shape
+pub fn shape_at(letters: &[u8], index: usize) -> Option<Shape>
     ensures { result ≡ shape_at letters.now index }
 {
-    if letters.len() == 0 {
-        return Shape::Nothing;
-    }
-    let i = smaller(index, letters.len() - 1);
-    shape_of(letters[i])
+    let letter = letters.get(index).or(letters.last())?;
+    shape_of(*letter)
 }
 
 // Two fields with a colon between them, the word's first.
@@ -50,34 +46,32 @@ fn take_pair(
     text: &mut [u16],
     numbers: &mut [u32],
     h: Held,
-) -> Holding
+) -> Option<Held>
     requires { Room h (length word.now) (length text.old) (length numbers.old) }
-    ensures { Grew (shape_on (Shape.Two front back) (held_in h text.old numbers.old) word.now) (length word.now) h result text.new numbers.new }
+    ensures { Grew (shape_on (Some (Shape.Two front back)) (held_in h text.old numbers.old) word.now) (length word.now) h result text.new numbers.new }
 {
-    let colon = find(word, 58);
+    let colon = find(word, b':');
     if word.len() <= colon {
-        return Holding::Ill;
+        return None;
     }
-    match take_field(front, &word[..colon], text, numbers, h) {
-        Holding::Is(k) => take_field(back, &word[colon + 1..], text, numbers, k),
-        Holding::Ill => Holding::Ill,
-    }
+    let held = take_field(front, &word[..colon], text, numbers, h)?;
+    take_field(back, &word[colon + 1..], text, numbers, held)
 }
 
 // A word of a shape.
+#[tactic(auto, unfolding(crate::specs::Shape::shape_on))]
 pub fn take_word(
     shape: Shape,
     word: &[u8],
     text: &mut [u16],
     numbers: &mut [u32],
     h: Held,
-) -> Holding
+) -> Option<Held>
     requires { Room h (length word.now) (length text.old) (length numbers.old) }
-    ensures { Grew (shape_on shape (held_in h text.old numbers.old) word.now) (length word.now) h result text.new numbers.new }
+    ensures { Grew (shape_on (Some shape) (held_in h text.old numbers.old) word.now) (length word.now) h result text.new numbers.new }
 {
     match shape {
         Shape::One(field) => take_field(field, word, text, numbers, h),
         Shape::Two(front, back) => take_pair(front, back, word, text, numbers, h),
-        Shape::Nothing => Holding::Ill,
     }
 }

@@ -1,5 +1,5 @@
 -- `words::lines::take_words` meets its contract. Assumes nothing.
-use Rattle.words.proofs.Lining.{all_gone, few_gone, ill_gone, length_part, none_gone, one_gone}
+use Rattle.words.proofs.Lining.{all_gone, few_gone, ill_gone, length_part, no_letter, none_gone, one_gone}
 use native.Mathlib.Omega.{arith}
 use Rattle.words.proofs.lines.take_words.Goals as goal
 
@@ -27,20 +27,20 @@ pub loop-at-preserved : goal.loop-at-preserved
 loop-at-preserved c =
     let l = c.loop-at in
     let t = c.take_word in
-    let w = rw (c.shape_at-shape.ensures, c.in-Is.is) at t.ensures in
+    let w = rw (← c.in_ok-shape.was, c.shape_at.ensures, c.in_ok-held.was) at t.ensures in
     let r = l.invariant.0 in
     (r, one_gone l.invariant.1 c.word_end-end.ensures c.loop-at-test.true r.texts r.lists t.auto.text t.auto.numbers w)
 
-pub returns-in-Ill : goal.returns-in-Ill
-returns-in-Ill c =
-    ill_gone c.loop-at.invariant.1 c.word_end-end.ensures (rw (c.shape_at-shape.ensures, c.in-Ill.is) at c.take_word.ensures)
+pub returns-in_err-shape : goal.returns-in_err-shape
+returns-in_err-shape c =
+    rw c.from_residual.ensures (no_letter c.loop-at.invariant.1 c.word_end-end.ensures (rw c.in_err-shape.was at c.shape_at.ensures))
 
-pub overflow_add-i-2 : goal.overflow_add-i-2
-overflow_add-i-2 c =
-    omega (arith, c.loop-at.invariant.1.few, c.well_formed)
+pub returns-in_err-held : goal.returns-in_err-held
+returns-in_err-held c =
+    rw c.from_residual-in_err-held.ensures (ill_gone c.loop-at.invariant.1 c.word_end-end.ensures (rw (← c.in_ok-shape.was, c.shape_at.ensures, c.in_err-held.was) at c.take_word.ensures))
 
 pub returns-then-i-letters : goal.returns-then-i-letters
 returns-then-i-letters c = few_gone c.loop-at.invariant.1 c.loop-at-test.false c.if-i-letters.true
 
-pub returns : goal.returns
-returns c = all_gone c.loop-at.invariant.1 c.loop-at-test.false c.if-i-letters.false
+pub returns-else-i-letters : goal.returns-else-i-letters
+returns-else-i-letters c = all_gone c.loop-at.invariant.1 c.loop-at-test.false c.if-i-letters.false

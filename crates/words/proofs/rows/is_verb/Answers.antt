@@ -6,8 +6,8 @@ use mathlib.Core.Path.{sym}
 use Rattle.words.proofs.rows.is_verb.Goals as goal
 
 pub slice_bounds-same-end : goal.slice_bounds-same-end
-slice_bounds-same-end c = sym (length-take-le _ _ (rw c.find-end.ensures (leading_in _ _)))
+slice_bounds-same-end c = sym (length-take-le _ _ (rw c.find.ensures (leading_in _ _)))
 
 pub returns : goal.returns
 returns c =
-    rw (verb_is c.args.row.now, ← c.find-end.ensures) c.same.ensures
+    rw (verb_is c.args.row.now, ← c.find.ensures) c.same.ensures
