@@ -1,8 +1,8 @@
 // A program's dialogue by lines: the lines of standard input one after another, and an answer to each on standard output.
 #![tactic(auto)]
 
-ghost use Rattle.std.specs.Prelude.{◌≡◌, ◌≤◌, ◌<◌, ◌+◌, min, IfOk, IfSome, OnErr, length};
-ghost use Rattle.dialogue.specs.Turn.{Fits};
+ghost use Rattle.std.specs.Prelude.{◌≡◌, ◌≤◌, ◌<◌, ◌+◌, IfOk, IfSome, OnErr, length};
+ghost use Rattle.dialogue.specs.Turn.{Fits, Gathered};
 
 mod turns;
 
@@ -10,22 +10,69 @@ use replies::answers::{Answer, put_answer};
 use replies::places::Place;
 use std::io;
 use std::io::Read;
-pub use turns::{Turn, begin};
+use turns::{Turn, begin};
 
-// Puts bytes behind those that the line has, and says how many it has then. A line's bytes past the end of its memory are dropped: it is too long anyway.
-fn gather(line: &mut [u8], size: usize, bytes: &[u8]) -> usize
-    requires { size ≤ length line.old }
-    ensures { result ≡ min (size + length bytes.now) (length line.old) }
-{
-    let room = line.len() - size;
-    let kept = bytes.len().min(room);
-    line[size..size + kept].copy_from_slice(&bytes[..kept]);
-    size + kept
+// What the texts and numbers of an answer are shown of.
+#[derive(Clone, Copy)]
+pub struct Tables<'a> {
+    pub out: &'a [u16],
+    pub spans: &'a [u32],
+    pub numbers: &'a [u32],
 }
 
-// The next line, or none where the input has ended. All answers are written out before the next chunk is waited for. A last line without a line feed
-// counts.
-pub fn next_line<R: Read>(
+// Who answers lines.
+pub trait Judge {
+    // The answer to a line.
+    fn answer(&mut self, line: &[u8]) -> Answer;
+
+    // What it is shown of.
+    fn tables(&self) -> Tables<'_>;
+}
+
+// Takes the next bytes of the chunk, up to a line feed or to its end, behind those that the line has. A line's bytes past the end of its memory are dropped:
+// it is too long anyway.
+fn take(t: Turn, taken: &[u8], line: &mut [u8]) -> Turn
+    requires held { t.size ≤ length line.old }
+    requires left { t.from + length taken.now ≤ t.end }
+    ensures { Gathered t result (length line.old) }
+{
+    let bytes = taken.strip_suffix(b"\n").unwrap_or(taken);
+    let room = line.len() - t.size;
+    let kept = bytes.len().min(room);
+    let size = t.size + kept;
+    line[t.size..size].copy_from_slice(&bytes[..kept]);
+    Turn {
+        from: t.from + taken.len(),
+        end: t.end,
+        size,
+        at: t.at,
+    }
+}
+
+// The next chunk. All answers are written out before it is waited for.
+fn refill<R: Read>(
+    rt: &impl Print,
+    input: &mut R,
+    t: Turn,
+    chunk: &mut [u8],
+    piece: &[u8],
+) -> io::Result<Turn>
+    requires { t.at < length piece.now }
+    ensures ok { IfOk result (λ r. (r.end ≤ length chunk.old) × (r.size ≡ t.size) × (r.at ≡ 0)) }
+    ensures err { OnErr result (length chunk.new ≡ length chunk.old) }
+{
+    rt.write_all(&piece[..t.at])?;
+    let end = input.read(chunk)?;
+    Ok(Turn {
+        from: 0,
+        end,
+        size: t.size,
+        at: 0,
+    })
+}
+
+// The next line, or none where the input has ended. A last line without a line feed counts.
+fn next_line<R: Read>(
     rt: &impl Print,
     input: &mut R,
     t: Turn,
@@ -37,57 +84,38 @@ pub fn next_line<R: Read>(
     ensures ok { IfOk result (λ o. IfSome o (λ r. Fits r (length chunk.old) (length line.old) (length piece.now))) }
     ensures err { OnErr result ((length chunk.new ≡ length chunk.old) × (length line.new ≡ length line.old)) }
 {
-    let Turn {
-        mut from,
-        mut end,
-        mut at,
-        ..
-    } = t;
-    let mut size = 0;
+    let mut r = t;
     for _ in 0..u64::MAX {
-        let rest = &chunk[from..end];
+        let rest = &chunk[r.from..r.end];
         if let Some(n) = rest.iter().position(|byte| *byte == b'\n') {
-            size = gather(line, size, &rest[..n]);
-            from += n + 1;
-            return Ok(Some(Turn {
-                from,
-                end,
-                size,
-                at,
-            }));
+            return Ok(Some(take(r, &rest[..=n], line)));
         }
-        size = gather(line, size, rest);
-        rt.write_all(&piece[..at])?;
-        at = 0;
-        from = 0;
-        end = input.read(chunk)?;
-        if end == 0 {
-            let last = Turn {
-                from,
-                end,
-                size,
-                at,
-            };
-            return Ok(if size > 0 { Some(last) } else { None });
+        let taken = take(r, rest, line);
+        r = refill(rt, input, taken, chunk, piece)?;
+        if r.end == 0 {
+            return Ok(if r.size > 0 { Some(r) } else { None });
         }
     }
     Ok(None)
 }
 
-// Puts an answer into the piece, which is written out whenever it is full.
-pub fn show(
+// Puts an answer into the piece, which is written out whenever it is full. The next line has no bytes yet.
+fn show(
     rt: &impl Print,
     t: Turn,
     a: Answer,
-    out: &[u16],
-    spans: &[u32],
-    numbers: &[u32],
+    tables: Tables<'_>,
     piece: &mut [u8],
 ) -> io::Result<Turn>
     requires { t.at < length piece.old }
     ensures ok { IfOk result (λ r. (r.at < length piece.old) × (r.end ≤ t.end) × (r.size ≤ t.size)) }
     ensures err { OnErr result (length piece.new ≡ length piece.old) }
 {
+    let Tables {
+        out,
+        spans,
+        numbers,
+    } = tables;
     let mut at = t.at;
     let mut skip = 0usize;
     for _ in 0..u64::MAX {
@@ -103,7 +131,28 @@ pub fn show(
     Ok(Turn {
         from: t.from,
         end: t.end,
-        size: t.size,
+        size: 0,
         at,
     })
+}
+
+// Has each line of the input answered, until the input ends. A line has one byte more than a question may have, so that one that is too long is seen to be.
+// A proved loop has to end, so it counts its turns, to a number that no input uses up.
+pub fn converse<R: Read, J: Judge>(
+    rt: &impl Print,
+    input: &mut R,
+    judge: &mut J,
+) -> io::Result<()> {
+    let mut chunk = [0; 65536];
+    let mut line = [0; 400001];
+    let mut piece = [0; 65536];
+    let mut t = begin();
+    for _ in 0..u64::MAX {
+        let Some(asked) = next_line(rt, input, t, &mut chunk, &mut line, &piece)? else {
+            break;
+        };
+        let a = judge.answer(&line[..asked.size]);
+        t = show(rt, asked, a, judge.tables(), &mut piece)?;
+    }
+    Ok(())
 }
