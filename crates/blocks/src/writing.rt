@@ -68,6 +68,5 @@ pub fn put_block(out: &mut [u16], records: &[u32], text: &[u16]) -> usize
 pub fn block_len(records: &[u32], text: &[u16]) -> usize
     ensures { result ≡ length (block_until_past block_limit (entries_of text.now records.now)) }
 {
-    let mut none = [0u16; 0];
-    put_block(&mut none, records, text)
+    put_block(&mut [], records, text)
 }

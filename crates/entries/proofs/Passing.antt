@@ -22,7 +22,10 @@ use Rattle.laws.specs.Pieces.{block_front, good}
 use Rattle.laws.specs.BadEntry.{Cause, runs, Bad, behind, lone, bad}
 use Rattle.laws.specs.EntrySpans.{entry_spans_length, last_spans}
 use Rattle.entries.specs.Measured.{Stands}
-use Rattle.entries.specs.Tallied.{Tallied}
+use Rattle.entries.specs.Tallied.{Counted, FirstBad}
+use Rattle.std.specs.Prelude.{Result, Ok, Err, OnOk}
+use Rattle.rules.specs.declared.Entries.{Entries}
+use Rattle.rules.specs.declared.Refusal.TheVariants as Refusal
 
 -- ---- what is passed
 
@@ -86,17 +89,11 @@ entry_stored t i a b c d h₁ h₂ h₃ h₄ =
 -- ---- what is told then
 
 -- a bad entry by its number
-bad_told : (lent : List ℕ) (i : ℕ) → Bad lent i → Tallied lent (i + 1) 0 0
-bad_told lent i b =
-    record {
-      judges = (first_wrong piece_finding 8 i (lent_entries lent)).1 (bad lent i b) ∙ rw (add-one i);
-      few = zero-le;
-      counts = λ z. absurd (omega arith);
-      uses = λ z. absurd (omega arith);
-    }
+bad_told : (lent : List ℕ) (i : ℕ) → Bad lent i → FirstBad lent (Refusal.Entry (i + 1))
+bad_told lent i b = record { place = i + 1; names = refl; judges = (first_wrong piece_finding 8 i (lent_entries lent)).1 (bad lent i b) }
 
 -- behind those that are passed there is none
-pub bad_met : {lent before table : List ℕ} {at count : ℕ} → Walking lent before table at count → Cause (drop at lent) → Tallied lent (count + 1) 0 0
+pub bad_met : {lent before table : List ℕ} {at count : ℕ} → Walking lent before table at count → Cause (drop at lent) → FirstBad lent (Refusal.Entry (count + 1))
 bad_met {lent} {count = count} p c = bad_told lent count (behind p.entries _ p.plain p.counted p.stands c)
 
 -- the block ends there, without its final NUL
@@ -104,25 +101,25 @@ pub ended : (lent : List ℕ) (at : ℕ) → length lent ≤ at → Cause (drop 
 ended lent at h = runs (rw (drop_of_length-le lent {i = at} h))
 
 -- no entries, no second NUL
-pub lone_told : (lent : List ℕ) → starts_with_nul lent ≡ true → starts_with_nul (drop 1 lent) ≡ false → Tallied lent 1 0 0
+pub lone_told : (lent : List ℕ) → starts_with_nul lent ≡ true → starts_with_nul (drop 1 lent) ≡ false → FirstBad lent (Refusal.Entry 1)
 lone_told lent s t = bad_told lent 0 (lone refl s t)
 
 -- a block of entries in front
 good_told : (lent : List ℕ) (entries : List Entry) (rest : List ℕ) (count used : ℕ) → AllPlain entries → lent ≡ block entries ++ rest
-    → count ≤ length lent → length entries ≡ count → units_used entries ≡ used → Tallied lent 0 count used × (entries_read lent ≡ entries)
+    → count ≤ length lent → length entries ≡ count → units_used entries ≡ used → Counted lent (record { count = count; units = used }) × (entries_read lent ≡ entries)
 good_told lent entries rest count used plain same few c u =
     let g = good lent entries rest plain same in (
       record {
-        judges = (all_sound piece_finding (lent_entries lent)).1 g.sound;
+        sound = (all_sound piece_finding (lent_entries lent)).1 g.sound;
         few = few;
-        counts = λ z. rw g.gives (sym c);
-        uses = λ z. rw g.gives (sym u);
+        counts = rw g.gives (sym c);
+        uses = rw g.gives (sym u);
       },
       g.gives,
     )
 
 -- two NULs
-pub none_told : (lent : List ℕ) → starts_with_nul lent ≡ true → starts_with_nul (drop 1 lent) ≡ true → Tallied lent 0 0 2
+pub none_told : (lent : List ℕ) → starts_with_nul lent ≡ true → starts_with_nul (drop 1 lent) ≡ true → Counted lent (record { count = 0; units = 2 })
 unfolding block
 none_told [] s t = clash false s refl
 none_told (x ∷ []) s t = clash false t refl
@@ -133,14 +130,14 @@ none_told (x ∷ y ∷ ys) s t =
 
 -- the final NUL behind entries: what is told, and what the table holds
 pub final_met : {lent before table : List ℕ} {at count : ℕ} → Walking lent before table at count → at < length lent → get_or lent at 0 ≡ 0 → ¬ (count ≡ 0)
-    → Tallied lent 0 count (at + 1) × (table ≡ sets before 0 (entry_spans (entries_read lent)))
+    → Counted lent (record { count = count; units = at + 1 }) × (table ≡ sets before 0 (entry_spans (entries_read lent)))
 final_met {lent} {before} {table} {at} {count} p l z n = go p.entries p.plain p.counted p.sizes p.stands p.stored
   where
     here : drop at lent ≡ nul ∷ drop (at + 1) lent
     here = let d : drop at lent ≡ get_or lent at 0 ∷ drop (at + 1) lent = rw (add-one at) (drop-cons lent at 0 l) in rw z at d
 
     go : (es : List Entry) → AllPlain es → length es ≡ count → entry_sizes es ≡ at → lent ≡ entry_units es ++ drop at lent → table ≡ sets before 0 (entry_spans es)
-        → Tallied lent 0 count (at + 1) × (table ≡ sets before 0 (entry_spans (entries_read lent)))
+        → Counted lent (record { count = count; units = at + 1 }) × (table ≡ sets before 0 (entry_spans (entries_read lent)))
     go [] plain counted sizes stands stored = absurd (n (sym counted))
     go (e ∷ more) plain counted sizes stands stored =
         let same : lent ≡ block (e ∷ more) ++ drop (at + 1) lent =
@@ -148,6 +145,11 @@ final_met {lent} {before} {table} {at} {count} p l z n = go p.entries p.plain p.
         let few : count ≤ length lent = omega (arith, walked_few p) in
         let (told, gives) = good_told lent (e ∷ more) (drop (at + 1) lent) count (at + 1) plain same few counted (ap (λ (n : ℕ). n + 1) sizes) in
         (told, rw gives stored)
+
+-- what holds anyway holds where the answer is none of a refusal
+pub anyway : {P : Type 0} (r : Result Entries Refusal.the_data) → P → OnOk r P
+anyway (Ok entries) p = p
+anyway (Err refusal) p = tt
 
 -- ---- a block that starts with NUL
 

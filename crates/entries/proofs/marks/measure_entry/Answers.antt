@@ -1,13 +1,14 @@
 -- `entries::marks::measure_entry` meets its contract. Assumes nothing.
 use Prim.Native.Nat.{◌+◌, ◌≤◌}
 use native.Mathlib.Omega.{arith}
-use mathlib.Core.Path.{◌≡◌, refl, ap, ◌∙◌}
+use mathlib.Core.Path.{◌≡◌, ap, ◌∙◌}
 use lib.ListN.{length, drop}
 use Rattle.rules.specs.Unit.{is_nul}
 use Rattle.laws.specs.Scan.{before, is_either}
 use Rattle.laws.specs.Store.{part_is}
 use Rattle.entries.proofs.Marking.{Begun, mark_inside, mark_cut, mark_nul, end_inside, value_cut, good_met}
 use Rattle.entries.proofs.marks.measure_entry.Goals.{After-find_near, After-find_nul-value}
+use Rattle.entries.proofs.marks.measure_entry.Goals.{then-key-rest-via-then-key-rest, then-key-rest-via-else-key-rest+then-rest-key-eq-NUL}
 use Rattle.entries.proofs.marks.measure_entry.Goals as goal
 
 -- the rest, and what the first scan found in it
@@ -28,17 +29,18 @@ pub overflow_add-key : goal.overflow_add-key
 overflow_add-key c = omega (arith, inside c)
 
 pub returns-then-key-rest : goal.returns-then-key-rest
-returns-then-key-rest c = record { good = λ n. absurd (n refl); bad = λ e. mark_cut _ _ (begun (goal.at.returns-then-key-rest c).After-find_near) c.if-key-rest.true }
+returns-then-key-rest c =
+    let b = begun (goal.at.returns-then-key-rest c).After-find_near in
+    elim c.then-key-rest.branch [
+      | then-key-rest-via-then-key-rest w ↦ mark_cut _ _ b w.if-key-rest.true
+      | then-key-rest-via-else-key-rest+then-rest-key-eq-NUL w ↦ mark_nul _ _ b w.if-key-rest.false w.if-rest-key-eq-NUL.true
+    ]
 
 pub offset_bounds-rest-key : goal.offset_bounds-rest-key
 offset_bounds-rest-key c = omega (arith, inside (goal.at.offset_bounds-rest-key c).After-find_near)
 
 pub bounds-rest-key : goal.bounds-rest-key
 bounds-rest-key c = omega (arith, inside (goal.at.bounds-rest-key c).After-find_near, c.if-key-rest.false)
-
-pub returns-then-rest-key-eq0 : goal.returns-then-rest-key-eq0
-returns-then-rest-key-eq0 c =
-    record { good = λ n. absurd (n refl); bad = λ e. mark_nul _ _ (begun (goal.at.returns-then-rest-key-eq0 c).After-find_near) c.if-key-rest.false c.if-rest-key-eq0.true }
 
 pub overflow_add-from : goal.overflow_add-from
 overflow_add-from c = omega (arith, inside (goal.at.overflow_add-from c).After-find_near)
@@ -58,14 +60,10 @@ overflow_add-from-2 c =
 
 pub returns-then-from-value : goal.returns-then-from-value
 returns-then-from-value c =
-    record {
-      good = λ n. absurd (n refl);
-      bad = λ e. value_cut _ _ (begun (goal.at.returns-then-from-value c).After-find_near) c.if-key-rest.false c.if-rest-key-eq0.false _ (found (goal.at.returns-then-from-value c).After-find_nul-value) c.if-from-value.true;
-    }
+    let at = goal.at.returns-then-from-value c in
+    value_cut _ _ (begun at.After-find_near) c.if-key-rest.false c.if-rest-key-eq-NUL.false _ (found at.After-find_nul-value) c.if-from-value.true
 
-pub returns : goal.returns
-returns c =
-    record {
-      good = λ n. good_met _ _ (begun (goal.at.returns c).After-find_near) c.if-key-rest.false c.if-rest-key-eq0.false _ (found (goal.at.returns c).After-find_nul-value) c.if-from-value.false;
-      bad = λ e. absurd (omega (arith, e));
-    }
+pub returns-else-from-value : goal.returns-else-from-value
+returns-else-from-value c =
+    let at = goal.at.returns-else-from-value c in
+    good_met _ _ (begun at.After-find_near) c.if-key-rest.false c.if-rest-key-eq-NUL.false _ (found at.After-find_nul-value) c.if-from-value.false
