@@ -1,162 +1,87 @@
 -- Units shown one after another. Assumes nothing.
-use Prim.Native.Nat.{ℕ, suc, ◌+◌, ◌-◌, ◌/◌, ◌%◌, ◌≤◌, ◌<◌}
-use native.Mathlib.Nat.{add-zero}
-use native.Mathlib.Numerals.{add-one}
-use native.Mathlib.Omega.{arith}
-use mathlib.Core.Path.{◌≡◌, refl, sym, ◌∙◌}
-use mathlib.Core.Bool.{Bool, true, false}
-use mathlib.Core.List.{List, [], ◌∷◌, ◌++◌, append-nil}
-use lib.Dec.{leb, ltb}
-use lib.ListN.{length, get_or, take, drop, length-drop, drop_of_length-le}
-use lib.Seq.{sets, drop-cons, drop-drop, get_or-drop}
-use borrow.Author.Tests.{leb-true, le-ltb, lt-ltb}
-use Rattle.rules.specs.Choice.{pick, either}
+use Rattle.std.proofs.Common.{ℕ, zero, suc, ◌+◌, ◌-◌, ◌≤◌, ◌<◌, ◌≡◌, refl, sym, ◌∙◌, append-nil, arith, Bool, true, false, ◌||◌, cond, inl, inr, List, [], ◌∷◌, ◌++◌, length, get_or, drop, leb, ltb, le-leb, leb-true, take}
+use Rattle.std.specs.Char.{encode_utf8, OutOfScalarRange}
+use Rattle.std.proofs.Math.Utf8.{encode}
+use Rattle.std.proofs.lemmas.List.Edits.{sets}
+use Rattle.rules.specs.Choice.{pick, both}
 use Rattle.rules.specs.Unit.{within}
-use Rattle.laws.specs.Choice.{both_true, choose}
+use Rattle.laws.specs.Choice.{choose}
 use Rattle.laws.specs.Store.{part_is, sets_out}
 use Rattle.laws.specs.Placed.{Left, Placed, less_left, same_left}
-use Rattle.shown.specs.Shown.{hidden, in_ranges, is_pair, starts_with_pair, joined, is_hidden, utf8, single, shown, Clipped}
+use Rattle.shown.specs.Shown.{hidden, in_ranges, is_pair, joined, is_hidden, utf8, single, shown, Clipped}
 use Rattle.octets.specs.Braced.{braced, braced_short}
 
--- ---- ranges
+-- ---- single units
 
--- what is in a range is so
-in_bounds : (least most x : ℕ) → within least most x ≡ true → (least ≤ x) × (x ≤ most)
-in_bounds least most x h = let b = both_true (leb least x) (leb x most) h in (leb-true least x b.0, leb-true x most b.1)
-
--- the next range, and those behind it
-pub ranges_next : (xs : List ℕ) (i x : ℕ) → i + 1 < length xs
-    → in_ranges (drop i xs) x ≡ either (within (get_or xs i 0) (get_or xs (i + 1) 0) x) (in_ranges (drop (i + 2) xs) x)
-unfolding in_ranges
-ranges_next xs i x h =
-    let e : i + 2 ≡ suc (i + 1) = omega arith in
-    rw (drop-cons xs i 0 (omega arith), ← add-one i, drop-cons xs (i + 1) 0 h, e)
-
--- no whole range is left
-pub ranges_over : (xs : List ℕ) (i x : ℕ) → length xs ≤ i + 1 → in_ranges (drop i xs) x ≡ false
-unfolding in_ranges
-ranges_over xs i x h = go (drop i xs) (rw length-drop (omega arith))
+-- std's UTF-8 is the document's
+pub utf8_is : (v : ℕ) → encode_utf8 v ≡ utf8 v
+unfolding encode utf8
+utf8_is v = go (ltb v 128) (ltb v 2048) (ltb v 65536) _ _ _ _
   where
-    go : (ys : List ℕ) → length ys ≤ 1 → in_ranges ys x ≡ false
-    go [] l = refl
-    go (y ∷ []) l = refl
-    go (y ∷ z ∷ ys) l = absurd (omega arith)
+    go : (p q r : Bool) (a b c d : List ℕ) → cond p a (cond q b (cond r c d)) ≡ pick p a (pick q b (pick r c d))
+    go true q r a b c d = refl
+    go false true r a b c d = refl
+    go false false true a b c d = refl
+    go false false false a b c d = refl
+
+last_true : (a : Bool) {b : Bool} → b ≡ true → (a || b) ≡ true
+last_true true h = refl
+last_true false h = h
+
+-- what stands in a later range stands in one
+later : (n : ℕ) (ranges : List (ℕ × ℕ)) (x : ℕ) → in_ranges (drop n ranges) x ≡ true → in_ranges ranges x ≡ true
+later zero ranges x h = h
+later (suc n) [] x h = h
+later (suc n) (r ∷ ranges) x h = last_true (within r.0 r.1 x) (later n ranges x h)
+
+-- half a pair cannot be seen
+half_hidden : (x : ℕ) → 55296 ≤ x → x ≤ 57343 → is_hidden x ≡ true
+unfolding is_hidden hidden
+half_hidden x a b = later 17 hidden x (rw (le-leb 55296 x a, le-leb x 63743 (omega arith)) refl)
+
+-- what is no character by itself cannot be seen
+pub out_hidden : (x : ℕ) → x < 65536 → OutOfScalarRange x → is_hidden x ≡ true
+out_hidden x f (inl h) = half_hidden x h.0 h.1
+out_hidden x f (inr h) = absurd (omega arith)
+
+-- a unit that cannot be seen
+pub escaped : (x : ℕ) → is_hidden x ≡ true → single x ≡ braced x
+unfolding single
+escaped x h = rw h refl
+
+-- a unit that can be seen
+pub seen : (x : ℕ) → is_hidden x ≡ false → single x ≡ utf8 x
+unfolding single
+seen x h = rw h refl
 
 -- ---- pairs
 
--- too few for a pair
-pub pair_short : (xs : List ℕ) → length xs < 2 → starts_with_pair xs ≡ false
-pair_short [] l = refl
-pair_short (x ∷ []) l = refl
-pair_short (x ∷ y ∷ xs) l = absurd (omega arith)
-
--- whether the first two are a pair
-pub pair_is : (xs : List ℕ) → 2 ≤ length xs → starts_with_pair xs ≡ is_pair (get_or xs 0 0) (get_or xs 1 0)
-pair_is [] l = absurd (omega arith)
-pair_is (x ∷ []) l = absurd (omega arith)
-pair_is (x ∷ y ∷ xs) l = refl
-
--- what a pair is
-pub record Paired (xs : List ℕ) (i : ℕ) : Type 0 where
-  pub two : i + 2 ≤ length xs
-  pub high : (55296 ≤ get_or xs i 0) × (get_or xs i 0 ≤ 56127)
-  pub low : (56320 ≤ get_or xs (i + 1) 0) × (get_or xs (i + 1) 0 ≤ 57343)
-  pub shows : shown (drop i xs) ≡ utf8 (joined (get_or xs i 0) (get_or xs (i + 1) 0)) ++ shown (drop (i + 2) xs)
-
-paired_list : (ys : List ℕ) → starts_with_pair ys ≡ true → (2 ≤ length ys) × (is_pair (get_or ys 0 0) (get_or ys 1 0) ≡ true)
-    × (shown ys ≡ utf8 (joined (get_or ys 0 0) (get_or ys 1 0)) ++ shown (drop 2 ys))
+-- a pair stands at the front
+pub paired : (xs : List ℕ) → 2 ≤ length xs → (55296 ≤ get_or xs 0 0) × (get_or xs 0 0 ≤ 56127) → (56320 ≤ get_or xs 1 0) × (get_or xs 1 0 ≤ 57343)
+    → shown xs ≡ utf8 (joined (get_or xs 0 0) (get_or xs 1 0)) ++ shown (take (length xs - 2) (drop 2 xs))
 unfolding shown
-paired_list [] h = absurd (let z : ◌≡◌ {A = ℕ} 0 1 = cc in omega arith)
-paired_list (x ∷ []) h = absurd (let z : ◌≡◌ {A = ℕ} 0 1 = cc in omega arith)
-paired_list (x ∷ y ∷ ys) h = (omega arith, h, rw h)
+paired [] n h l = absurd (omega arith)
+paired (x ∷ []) n h l = absurd (omega arith)
+paired (x ∷ y ∷ more) n h l = rw (le-leb 55296 x h.0, le-leb x 56127 h.1, le-leb 56320 y l.0, le-leb y 57343 l.1, part_is) refl
 
--- a pair stands at i
-pub paired : (xs : List ℕ) (i : ℕ) {t : Bool} → t ≡ starts_with_pair (take (length xs - i) (drop i xs)) → t ≡ true → Paired xs i
-paired xs i e h =
-    let l = paired_list (drop i xs) (rw part_is at (sym e ∙ h)) in
-    let zero-at : get_or (drop i xs) 0 0 ≡ get_or xs i 0 = get_or-drop i xs 0 0 ∙ rw add-zero in
-    let one_at : get_or (drop i xs) 1 0 ≡ get_or xs (i + 1) 0 = get_or-drop i xs 1 0 in
-    let b = both_true (within 55296 56127 (get_or xs i 0)) (within 56320 57343 (get_or xs (i + 1) 0)) (rw (zero-at, one_at) at l.1) in
-    record {
-      two = omega (arith, rw length-drop at l.0);
-      high = in_bounds 55296 56127 (get_or xs i 0) b.0;
-      low = in_bounds 56320 57343 (get_or xs (i + 1) 0) b.1;
-      shows = rw (zero-at, one_at, drop-drop) at l.2;
-    }
+no_pair : (x y : ℕ) → (55296 ≤ x → x ≤ 56127 → 56320 ≤ y → y ≤ 57343 → ⊥) → is_pair x y ≡ false
+no_pair x y n = go (leb 55296 x) (leb x 56127) (leb 56320 y) (leb y 57343) refl refl refl refl
+  where
+    go : (p q r t : Bool) → leb 55296 x ≡ p → leb x 56127 ≡ q → leb 56320 y ≡ r → leb y 57343 ≡ t → both (both p q) (both r t) ≡ false
+    go true true true true a b c d = absurd (n (leb-true 55296 x a) (leb-true x 56127 b) (leb-true 56320 y c) (leb-true y 57343 d))
+    go true true true false a b c d = refl
+    go true true false t a b c d = refl
+    go true false r t a b c d = refl
+    go false q r t a b c d = refl
 
-single_list : (ys : List ℕ) → 0 < length ys → starts_with_pair ys ≡ false → shown ys ≡ single (get_or ys 0 0) ++ shown (drop 1 ys)
+-- a unit without a partner stands at the front
+pub alone : (xs : List ℕ) → 0 < length xs
+    → (2 ≤ length xs → 55296 ≤ get_or xs 0 0 → get_or xs 0 0 ≤ 56127 → 56320 ≤ get_or xs 1 0 → get_or xs 1 0 ≤ 57343 → ⊥)
+    → shown xs ≡ single (get_or xs 0 0) ++ shown (take (length xs - 1) (drop 1 xs))
 unfolding shown
-single_list [] l h = absurd (omega arith)
-single_list (x ∷ []) l h = rw append-nil
-single_list (x ∷ y ∷ ys) l h = rw h
-
--- a unit without a partner stands at i
-pub alone : (xs : List ℕ) (i : ℕ) {t : Bool} → i < length xs → t ≡ starts_with_pair (take (length xs - i) (drop i xs)) → t ≡ false
-    → shown (drop i xs) ≡ single (get_or xs i 0) ++ shown (drop (i + 1) xs)
-alone xs i l e h =
-    let zero-at : get_or (drop i xs) 0 0 ≡ get_or xs i 0 = get_or-drop i xs 0 0 ∙ rw add-zero in
-    let s = single_list (drop i xs) (rw length-drop (omega arith)) (rw part_is at (sym e ∙ h)) in
-    rw (zero-at, drop-drop) at s
-
-module _ (x : ℕ) {ranges : List ℕ} {t : Bool} (h : ranges ≡ hidden) (e : t ≡ in_ranges ranges x) where
-  -- a unit that cannot be seen
-  pub escaped : t ≡ true → single x ≡ braced x
-  unfolding single is_hidden
-  escaped y = let g : in_ranges hidden x ≡ true = rw h at (sym e ∙ y) in rw g
-
-  -- a unit that can be seen
-  pub seen : t ≡ false → single x ≡ utf8 x
-  unfolding single is_hidden
-  seen y = let g : in_ranges hidden x ≡ false = rw h at (sym e ∙ y) in rw g
-
--- ---- the loop
-
--- i units are shown up to `to`, which passes the end by less than one character
-pub record Showing (units before out : List ℕ) (i to : ℕ) : Type 0 where
-  pub within : i ≤ length units
-  pub near : to ≤ length before + 6
-  pub still : Left (shown units) 0 before (shown (drop i units)) to out
-
-module _ {units before : List ℕ} where
-  -- nothing is shown yet
-  pub none_shown : Showing units before before 0 0
-  none_shown = record { within = omega arith; near = omega arith; still = record { counts = refl; stores = refl } }
-
-  -- a piece more
-  pub piece_shown : {out out' piece : List ℕ} {i i' to to' : ℕ} → Showing units before out i to → shown (drop i units) ≡ piece ++ shown (drop i' units)
-      → i' ≤ length units → to ≤ length out → length piece ≤ 6 → Placed piece to to' out out' → Showing units before out' i' to'
-  piece_shown s e w n f p =
-      record { within = w; near = omega (arith, p.ends, same_left s.still); still = less_left (rw e at s.still) p }
-
-  -- no room
-  pub no_room : {out : List ℕ} {i to : ℕ} → Showing units before out i to → length out < to → Clipped (shown units) (length out + 1) before out
-  no_room {out} {i} {to} s h =
-      let l = s.still in
-      let z : sets out to (shown (drop i units)) ≡ out = sets_out out to (shown (drop i units)) (omega arith) in
-      record { counts = omega (arith, l.counts, same_left l); stores = sym z ∙ l.stores }
-
-  -- all is shown
-  pub all_shown : {out : List ℕ} {i to : ℕ} → Showing units before out i to → length units ≤ i → to ≤ length out → Clipped (shown units) to before out
-  unfolding shown
-  all_shown {out} {i} {to} s h n =
-      let e : drop i units ≡ [] = drop_of_length-le units {i = i} h in
-      let l = rw e at s.still in
-      record { counts = omega (arith, l.counts, same_left l); stores = l.stores }
-
--- ---- the bytes of a character, by how many there are
-
-module _ (v : ℕ) where
-  pub two_bytes : 128 ≤ v → v < 2048 → utf8 v ≡ (192 + v / 64) ∷ (128 + v % 64) ∷ []
-  unfolding utf8
-  two_bytes a b = rw (le-ltb v 128 a, lt-ltb v 2048 b)
-
-  pub three_bytes : 2048 ≤ v → v < 65536 → utf8 v ≡ (224 + v / 4096) ∷ (128 + v / 64 % 64) ∷ (128 + v % 64) ∷ []
-  unfolding utf8
-  three_bytes a b = rw (le-ltb v 128 (omega arith), le-ltb v 2048 a, lt-ltb v 65536 b)
-
-  pub four_bytes : 65536 ≤ v → utf8 v ≡ (240 + v / 262144) ∷ (128 + v / 4096 % 64) ∷ (128 + v / 64 % 64) ∷ (128 + v % 64) ∷ []
-  unfolding utf8
-  four_bytes a = rw (le-ltb v 128 (omega arith), le-ltb v 2048 (omega arith), le-ltb v 65536 a)
+alone [] l n = absurd (omega arith)
+alone (x ∷ []) l n = rw append-nil refl
+alone (x ∷ y ∷ more) l n = rw (no_pair x y (n (omega arith)), part_is) refl
 
 -- ---- how long pieces are
 
@@ -176,3 +101,47 @@ few_bytes v = one_to_four (ltb v 128) (ltb v 2048) (ltb v 65536) _ _ _ _ _ _ _ _
 pub few_single : (x : ℕ) → length (single x) ≤ 6
 unfolding single
 few_single x = let u : length (utf8 x) ≤ 6 = omega (arith, few_bytes x) in choose (λ (l : List ℕ). length l ≤ 6) (is_hidden x) (braced_short x) u
+
+-- ---- the loop
+
+-- what is left would be shown from `to` on, which passes the end by less than one character
+pub record Showing (units before out rest : List ℕ) (to : ℕ) : Type 0 where
+  pub near : to ≤ length before + 6
+  pub still : Left (shown units) 0 before (shown rest) to out
+
+module _ {units before : List ℕ} where
+  -- nothing is shown yet
+  pub none_shown : Showing units before before units 0
+  none_shown = record { near = omega arith; still = record { counts = refl; stores = refl } }
+
+  -- a piece more
+  pub piece_shown : {out out' rest rest' piece : List ℕ} {to to' : ℕ} → Showing units before out rest to → shown rest ≡ piece ++ shown rest'
+      → to ≤ length out → length piece ≤ 6 → Placed piece to to' out out' → Showing units before out' rest' to'
+  piece_shown s e n f p = record { near = omega (arith, p.ends, same_left s.still); still = less_left (rw e at s.still) p }
+
+  -- no room
+  pub no_room : {out rest : List ℕ} {to : ℕ} → Showing units before out rest to → length out < to → Clipped (shown units) (length out + 1) before out
+  no_room {out} {rest} {to} s h =
+      let l = s.still in
+      let z : sets out to (shown rest) ≡ out = sets_out out to (shown rest) (omega arith) in
+      record { counts = omega (arith, l.counts, same_left l); stores = sym z ∙ l.stores }
+
+  -- all is shown
+  pub all_shown : {out rest : List ℕ} {to : ℕ} → Showing units before out rest to → length rest < 1 → to ≤ length out → Clipped (shown units) to before out
+  unfolding shown
+  all_shown {rest = []} s h n = let l = s.still in record { counts = omega (arith, l.counts, same_left l); stores = l.stores }
+  all_shown {rest = x ∷ rest} s h n = absurd (omega arith)
+
+  -- a pair more
+  pub pair_shown : {out out' rest : List ℕ} {to to' joint : ℕ} → Showing units before out rest to → to ≤ length out → 2 ≤ length rest
+      → (55296 ≤ get_or rest 0 0) × (get_or rest 0 0 ≤ 56127) → (56320 ≤ get_or rest 1 0) × (get_or rest 1 0 ≤ 57343)
+      → joint ≡ joined (get_or rest 0 0) (get_or rest 1 0) → Placed (utf8 joint) to to' out out'
+      → Showing units before out' (take (length rest - 2) (drop 2 rest)) to'
+  pair_shown {rest = rest} {joint = joint} s n l h w e p =
+      let f = few_bytes joint in piece_shown s (paired rest l h w ∙ rw e refl) n (omega arith) p
+
+  -- a unit without a partner more
+  pub unit_shown : {out out' rest : List ℕ} {to to' : ℕ} → Showing units before out rest to → to ≤ length out → 0 < length rest
+      → (2 ≤ length rest → 55296 ≤ get_or rest 0 0 → get_or rest 0 0 ≤ 56127 → 56320 ≤ get_or rest 1 0 → get_or rest 1 0 ≤ 57343 → ⊥)
+      → Placed (single (get_or rest 0 0)) to to' out out' → Showing units before out' (take (length rest - 1) (drop 1 rest)) to'
+  unit_shown {rest = rest} s n l h p = piece_shown s (alone rest l h) n (few_single (get_or rest 0 0)) p

@@ -1,31 +1,30 @@
 -- How units are shown at a terminal: characters that can be seen as UTF-8, every other unit as `{hex}`. Assumes nothing.
-use Rattle.std.specs.Prelude.{ℕ, ◌+◌, ◌*◌, ◌-◌, ◌/◌, ◌%◌, min, ◌≡◌, Bool, false, List, [], ◌∷◌, ◌++◌, ltb, length}
+use Rattle.std.specs.Prelude.{ℕ, ◌+◌, ◌*◌, ◌-◌, ◌/◌, ◌%◌, min, ◌≡◌, Bool, List, [], ◌∷◌, ◌++◌, ltb, length}
+use Rattle.std.specs.List.{list_any}
 use Rattle.std.proofs.Common.{sym, ◌∙◌}
 use Rattle.std.proofs.lemmas.List.Edits.{sets}
-use Rattle.rules.specs.Choice.{pick, either, both}
+use Rattle.rules.specs.Choice.{pick, both}
 use Rattle.rules.specs.Unit.{within}
 use Rattle.octets.specs.Braced.{braced}
 
 -- ---- what is hidden
 
--- Units that stand for nothing that can be seen, as ranges, least and most in turn: controls; the braces, which escapes need; delete, controls
+-- Units that stand for nothing that can be seen, as ranges, least and most: controls; the braces, which escapes need; delete, controls
 -- and the blank that does not break; the soft hyphen; joiners, fillers and marks of direction; blanks of other widths; surrogates that have no
 -- partner and the private area; selectors of variants; the mark of byte order; what is no character.
-unfoldable pub hidden : List ℕ
+unfoldable pub hidden : List (ℕ × ℕ)
 hidden =
-    0 ∷ 31 ∷ 123 ∷ 123 ∷ 125 ∷ 125 ∷ 127 ∷ 160 ∷ 173 ∷ 173 ∷ 847 ∷ 847 ∷ 1564 ∷ 1564 ∷ 4447 ∷ 4448 ∷ 5760 ∷ 5760 ∷ 6068 ∷ 6069 ∷ 6155 ∷ 6159
-    ∷ 8192 ∷ 8207 ∷ 8232 ∷ 8239 ∷ 8287 ∷ 8303 ∷ 10240 ∷ 10240 ∷ 12288 ∷ 12288 ∷ 12644 ∷ 12644 ∷ 55296 ∷ 63743 ∷ 65024 ∷ 65039 ∷ 65279 ∷ 65279
-    ∷ 65440 ∷ 65440 ∷ 65520 ∷ 65535 ∷ []
+    (0, 31) ∷ (123, 123) ∷ (125, 125) ∷ (127, 160) ∷ (173, 173) ∷ (847, 847) ∷ (1564, 1564) ∷ (4447, 4448) ∷ (5760, 5760) ∷ (6068, 6069) ∷ (6155, 6159)
+    ∷ (8192, 8207) ∷ (8232, 8239) ∷ (8287, 8303) ∷ (10240, 10240) ∷ (12288, 12288) ∷ (12644, 12644) ∷ (55296, 63743) ∷ (65024, 65039) ∷ (65279, 65279)
+    ∷ (65440, 65440) ∷ (65520, 65535) ∷ []
 
 -- the number is in one of the ranges
-unfoldable pub in_ranges : List ℕ → ℕ → Bool
-in_ranges [] x = false
-in_ranges (least ∷ []) x = false
-in_ranges (least ∷ most ∷ more) x = either (within least most x) (in_ranges more x)
+abbrev pub in_ranges : List (ℕ × ℕ) → ℕ → Bool
+in_ranges ranges x = list_any (λ (r : ℕ × ℕ). within r.0 r.1 x) ranges
 
 -- the unit alone cannot be seen
 unfoldable pub is_hidden : ℕ → Bool
-unfolding in_ranges hidden
+unfolding hidden
 is_hidden x = in_ranges hidden x
 
 -- A high and a low surrogate whose character can be seen. The characters of the planes 14 to 16, high surrogates 56128 and up, are tags and
@@ -62,12 +61,6 @@ shown (x ∷ y ∷ more) =
     let paired = utf8 (joined x y) ++ shown more in
     let alone = single x ++ shown (y ∷ more) in
     pick (is_pair x y) paired alone
-
--- units begin with a pair that can be seen
-abbrev pub starts_with_pair : List ℕ → Bool
-starts_with_pair [] = false
-starts_with_pair (x ∷ []) = false
-starts_with_pair (x ∷ y ∷ more) = is_pair x y
 
 -- ---- contracts
 
