@@ -2,9 +2,8 @@
 #![tactic(auto)]
 
 ghost use Rattle.std.specs.Prelude.{◌≡◌, ◌+◌, ◌<◌, ◌≤◌, ◌^◌};
-ghost use Rattle.rules.specs.Unit.{within};
 ghost use Rattle.laws.specs.Placed.{Placed};
-ghost use Rattle.shown.specs.Shown.{in_ranges, joined, utf8, single, shown, Clipped};
+ghost use Rattle.shown.specs.Shown.{is_hidden, joined, utf8, single, shown, Clipped};
 
 use octets::digits::put_braced;
 use octets::put_run;
@@ -35,20 +34,14 @@ const HIDDEN: [(u16, u16); 22] = [
     (65520, 65535),
 ];
 
-// Whether a unit is in a range.
-fn is_within(least: u16, most: u16, unit: u16) -> bool
-    ensures { result ≡ within least most unit }
+// Whether a unit alone cannot be seen.
+#[tactic(auto, unfolding(crate::specs::Shown::is_hidden, crate::specs::Shown::hidden))]
+fn is_hidden(unit: u16) -> bool
+    ensures { result ≡ is_hidden unit }
 {
-    (least..=most).contains(&unit)
-}
-
-// Whether a unit is in one of the ranges.
-fn in_ranges(ranges: &[(u16, u16)], unit: u16) -> bool
-    ensures { result ≡ in_ranges ranges.now unit }
-{
-    ranges
+    HIDDEN
         .iter()
-        .any(|(least, most)| is_within(*least, *most, unit))
+        .any(|(least, most)| (*least..=*most).contains(&unit))
 }
 
 // The bytes of a character.
@@ -66,7 +59,7 @@ fn put_single(out: &mut [u8], at: usize, unit: u16) -> usize
     ensures { Placed (single unit) at result out.old out.new }
 {
     match char::from_u32(u32::from(unit)) {
-        Some(seen) if !in_ranges(&HIDDEN, unit) => put_char(out, at, seen),
+        Some(seen) if !is_hidden(unit) => put_char(out, at, seen),
         _ => put_braced(out, at, unit),
     }
 }
