@@ -10,20 +10,16 @@ use entries::read_envp;
 use fields::values::{number_at, rest_from, text_at, wide_at};
 use reading::parse_lp_cmd_line;
 use replies::answers::{Answer, Word};
-use sayings::{
-    brief, counts_told, lent_told, name_front, of_built, of_filled, of_listed, of_parsed,
-    with_numbers,
-};
+use sayings::{counts_told, lent_told, name_front, said, with_numbers};
 use status::status_text;
 use stores::copy_run;
-use units::parts::smaller;
 
 // Copies what is lent as the output to its front, names it as the table's first text, and says how many units it has.
 fn lend(out: &mut [u16], spans: &mut [u32], units: &[u16]) -> usize
     ensures { (result ≡ min (length units.now) (length out.old)) × (out.new ≡ sets out.old 0 units.now) }
 {
     copy_run(out, 0, units);
-    let places = smaller(units.len(), out.len());
+    let places = units.len().min(out.len());
     name_front(spans, places);
     places
 }
@@ -35,8 +31,8 @@ fn line(batch: bool, text: &[u16], numbers: &[u32], out: &mut [u16], spans: &mut
     let lent = text_at(text, numbers, 3);
     let places = lend(out, spans, text_at(text, numbers, 5));
     let records = rest_from(numbers, 7);
-    let b = build(batch, program, records, lent, force, &mut out[..places]);
-    lent_told(of_built(b))
+    let built = build(batch, program, records, lent, force, &mut out[..places]);
+    lent_told(built)
 }
 
 // `lent-env TEXT OUT [N ..]`
@@ -44,14 +40,14 @@ fn env(text: &[u16], numbers: &[u32], out: &mut [u16], spans: &mut [u32]) -> Ans
     let lent = text_at(text, numbers, 0);
     let places = lend(out, spans, text_at(text, numbers, 2));
     let records = rest_from(numbers, 4);
-    lent_told(of_filled(make_envp(records, lent, &mut out[..places])))
+    lent_told(make_envp(records, lent, &mut out[..places]))
 }
 
 // `lent-status N OUT`
 fn status(text: &[u16], numbers: &[u32], out: &mut [u16], spans: &mut [u32]) -> Answer {
     let places = lend(out, spans, text_at(text, numbers, 1));
     let number = number_at(numbers, 0);
-    lent_told(of_filled(status_text(number, &mut out[..places])))
+    lent_told(status_text(number, &mut out[..places]))
 }
 
 // `lent-read EXE LINE TEXT [N ..]`
@@ -59,17 +55,17 @@ fn read(text: &[u16], numbers: &mut [u32], out: &mut [u16], spans: &mut [u32]) -
     let exe = text_at(text, numbers, 0);
     let line = text_at(text, numbers, 2);
     let places = lend(out, spans, text_at(text, numbers, 4));
-    let start = smaller(6, numbers.len());
-    let p = parse_lp_cmd_line(line, exe, &mut out[..places], &mut numbers[start..]);
-    with_numbers(counts_told(of_parsed(p), 2), start, numbers.len(), false)
+    let start = numbers.len().min(6);
+    let parsed = parse_lp_cmd_line(line, exe, &mut out[..places], &mut numbers[start..]);
+    with_numbers(counts_told(parsed, 2), start, numbers.len(), false)
 }
 
 // `lent-entries BLOCK [N ..]`
 fn entries(text: &[u16], numbers: &mut [u32]) -> Answer {
     let block = text_at(text, numbers, 0);
-    let start = smaller(2, numbers.len());
-    let l = read_envp(block, &mut numbers[start..]);
-    with_numbers(counts_told(of_listed(l), 0), start, numbers.len(), false)
+    let start = numbers.len().min(2);
+    let listed = read_envp(block, &mut numbers[start..]);
+    with_numbers(counts_told(listed, 0), start, numbers.len(), false)
 }
 
 // `argument TEXT INDEX [N ..]`
@@ -78,10 +74,13 @@ fn argument(text: &[u16], numbers: &[u32], out: &mut [u16], spans: &mut [u32]) -
     let index = wide_at(numbers, 2) as usize;
     let part = reading::argument(lent, rest_from(numbers, 4), index);
     lend(out, spans, part);
-    brief(Word::Ok, 0, 0, 0, 2)
+    Answer {
+        spans: 2,
+        ..said(Word::Ok)
+    }
 }
 
-// The question of a row of the second set, in the order of the table.
+// The question of a row of the second set, in the order of the table. What is lent stays four parameters, as in the first set.
 pub fn ask(
     row: usize,
     text: &[u16],

@@ -1,7 +1,7 @@
 // The first set of questions, for which the records are made here and room enough is lent.
 #![tactic(auto)]
 
-ghost use Rattle.std.specs.Prelude.{◌≡◌, eqb, length, get_or, drop, nat_abs};
+ghost use Rattle.std.specs.Prelude.{◌≡◌, eqb, length, get_or, drop};
 ghost use Rattle.rules.specs.Record.{part};
 ghost use Rattle.rules.specs.Building.{either_line};
 ghost use Rattle.rules.specs.Block.{environment_block};
@@ -14,11 +14,8 @@ use entries::read_envp;
 use fields::values::{number_at, rest_from, text_at};
 use names::has_bat_extension;
 use reading::parse_lp_cmd_line;
-use replies::answers::{Answer, Word};
-use sayings::{
-    brief, entries_told, name_front, of_built, of_filled, of_listed, of_parsed, text_told,
-    texts_told, with_numbers,
-};
+use replies::answers::Answer;
+use sayings::{entries_told, text_told, texts_told, with_numbers, with_one};
 use status::{code, status_text};
 use stores::{copy_run, put_number};
 
@@ -26,8 +23,8 @@ use stores::{copy_run, put_number};
 fn read(text: &[u16], numbers: &[u32], out: &mut [u16], spans: &mut [u32]) -> Answer {
     let exe = text_at(text, numbers, 0);
     let line = text_at(text, numbers, 2);
-    let s = of_parsed(parse_lp_cmd_line(line, exe, out, spans));
-    texts_told(s, spans.len())
+    let parsed = parse_lp_cmd_line(line, exe, out, spans);
+    texts_told(parsed, spans.len())
 }
 
 // `line F PROGRAM [K:TEXT ..]`, and `batch F SCRIPT [K:TEXT ..]` where `batch` is set
@@ -37,18 +34,15 @@ fn line(batch: bool, text: &[u16], numbers: &[u32], out: &mut [u16], spans: &mut
     let force = number_at(numbers, 0) == 1;
     let program = text_at(text, numbers, 1);
     let records = rest_from(numbers, 3);
-    let s = of_built(build(batch, program, records, text, force, out));
-    name_front(spans, s.units as usize);
-    text_told(s)
+    let built = build(batch, program, records, text, force, out);
+    text_told(built, spans)
 }
 
 // `env [KEY:VALUE ..]`
 fn env(text: &[u16], numbers: &[u32], out: &mut [u16], spans: &mut [u32]) -> Answer
     ensures { Tells (environment_block numbers.now text.now (length out.old)) text_told result out.old out.new }
 {
-    let s = of_filled(make_envp(numbers, text, out));
-    name_front(spans, s.units as usize);
-    text_told(s)
+    text_told(make_envp(numbers, text, out), spans)
 }
 
 // `entries BLOCK`. The spans are those of the block, so it is copied to the front of the output, of which answers are shown.
@@ -57,42 +51,30 @@ fn entries(text: &[u16], numbers: &[u32], out: &mut [u16], spans: &mut [u32]) ->
 {
     let block = text_at(text, numbers, 0);
     copy_run(out, 0, block);
-    let s = of_listed(read_envp(block, spans));
-    entries_told(s, spans.len())
+    let listed = read_envp(block, spans);
+    entries_told(listed, spans.len())
 }
 
 // `suffix PATH`
 fn suffix(text: &[u16], numbers: &[u32]) -> Answer {
-    if has_bat_extension(text_at(text, numbers, 0)) {
-        return brief(Word::Ok, 1, 1, 0, 0);
-    }
-    brief(Word::Ok, 1, 0, 0, 0)
-}
-
-// A code without its sign. From -1 down, because the least code has no counterpart above 0.
-fn magnitude(code: i32) -> u32
-    ensures { result ≡ nat_abs code }
-{
-    if code < 0 {
-        return (-1 - code) as u32 + 1;
-    }
-    code as u32
+    let path = text_at(text, numbers, 0);
+    with_one(usize::from(has_bat_extension(path)), 0)
 }
 
 // `status N`
 fn status(numbers: &mut [u32], out: &mut [u16], spans: &mut [u32]) -> Answer {
     let status = number_at(numbers, 0);
     let signed = code(status);
-    let s = of_filled(status_text(status, out));
-    put_number(numbers, 0, magnitude(signed));
-    name_front(spans, s.units as usize);
-    with_numbers(text_told(s), 0, 1, signed < 0)
+    let told = text_told(status_text(status, out), spans);
+    put_number(numbers, 0, signed.unsigned_abs());
+    with_numbers(told, 0, 1, signed < 0)
 }
 
 // How many questions the first set has.
 pub const COUNT: usize = 7;
 
-// The question of a row of the first set, in the order of the table.
+// The question of a row of the first set, in the order of the table. What is lent stays four parameters: a struct of them is not passed on to a call while
+// the text in it is read, and its clauses would name the output by its position.
 pub fn ask(
     row: usize,
     text: &[u16],
