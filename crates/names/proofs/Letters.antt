@@ -1,37 +1,13 @@
--- A letter in either case as a `match` finds it, and the last four units of a path. Assumes nothing.
-use Prim.Native.Nat.{ℕ, suc, ◌-◌, ◌≤◌, ◌<◌}
+-- The last four units of a path. Assumes nothing.
+use Prim.Native.Nat.{suc, ◌-◌, ◌≤◌, ◌<◌, ℕ}
 use native.Mathlib.Omega.{arith}
-use mathlib.Core.Path.{◌≡◌, refl, ap, ◌∙◌}
-use mathlib.Core.Bool.{Bool, true, false}
+use mathlib.Core.Path.{◌≡◌, refl}
+use mathlib.Core.Bool.{false}
 use mathlib.Core.List.{List, [], ◌∷◌}
-use mathlib.Core.Logic.{◌⊎◌, inl, inr}
-use lib.Dec.{eqb}
 use lib.ListN.{length, get_or}
 use lib.Seq.{drop-cons, drop-length}
-use borrow.Author.Tests.{eq-eqb, ne_eqb}
-use Rattle.rules.specs.Choice.{either}
-use Rattle.rules.specs.Suffix.{one_of, is_suffix, has_batch_suffix}
-
--- a second test that holds
-either_true : (b : Bool) → either b true ≡ true
-either_true true = refl
-either_true false = refl
-
--- a letter that is one of the two
-pub one_of_lem : (p q : ℕ) {x : ℕ} → (x ≡ q) ⊎ (x ≡ p) → one_of p q x ≡ true
-one_of_lem p q {x} (inr e) = rw (eq-eqb x p e)
-one_of_lem p q {x} (inl e) = rw (eq-eqb x q e) (either_true (eqb x p))
-
--- a letter that is neither of the two
-pub none_of : (p q : ℕ) {x : ℕ} → ((x ≡ q) ⊎ (x ≡ p) → ⊥) → one_of p q x ≡ false
-none_of p q {x} n = rw (ne_eqb x p (λ e. n (inr e)), ne_eqb x q (λ e. n (inl e)))
-
--- a letter that is one of two others
-pub one_of_others : (p q : ℕ) {p' q' x : ℕ} → one_of p q q' ≡ false → one_of p q p' ≡ false → (x ≡ q') ⊎ (x ≡ p') → one_of p q x ≡ false
-one_of_others p q h k (inl e) = ap (one_of p q) e ∙ h
-one_of_others p q h k (inr e) = ap (one_of p q) e ∙ k
-
--- ---- the last four units of a path
+use Rattle.std.proofs.lemmas.Bool.Decides.{nat_tests}
+use Rattle.rules.specs.Suffix.{is_suffix, has_batch_suffix}
 
 -- a path under four units has no suffix
 pub short : (path : List ℕ) → length path < 4 → has_batch_suffix path ≡ false
@@ -63,3 +39,6 @@ last_four path h =
       e₀,
       drop-length,
     )
+
+-- what tells a suffix by its letters
+pub ruleset letters = (nat_tests, short, last_four)

@@ -30,3 +30,6 @@ pub no_script : (xs : List ℕ) → length xs ≡ 0 → xs ≡ script_of xs
 unfolding script_of
 no_script [] h = refl
 no_script (x ∷ xs) h = absurd (omega arith)
+
+-- what tells a script by its last unit
+pub ruleset last_nul = (cut_nul, no_nul, no_script)

@@ -8,7 +8,11 @@ ghost use Rattle.laws.specs.Placed.{Appended};
 ghost use Rattle.rules.specs.Suffix.{has_batch_suffix};
 ghost use Rattle.names.specs.Name.{name_of, front_of, head_of};
 
-mod suffix;
+// The unit before and behind a name.
+const QUOTE: u16 = 34;
+
+// The unit that may stand behind a script.
+const NUL: u16 = 0;
 
 // `cmd.exe /e:ON /v:OFF /d /c "`, the 28 units that a batch line starts with.
 const FRONT: [u16; 28] = [
@@ -20,37 +24,26 @@ const FRONT: [u16; 28] = [
 pub fn is_no_script(batch: bool, lent: &[u16]) -> bool
     ensures { result ≡ both batch (is_no_script lent.now) }
 {
-    if !batch {
-        return false;
-    }
-    if scans::has_quote(lent) {
-        return true;
-    }
-    scans::ends_in_backslash(lent)
+    batch && (scans::has_quote(lent) || scans::ends_in_backslash(lent))
 }
 
 // The script without one final NUL.
+#[tactic(auto, using(crate::proofs::Script::last_nul))]
 fn script_of(lent: &[u16]) -> &[u16]
     ensures { result.now ≡ script_of lent.now }
 {
-    if lent.len() == 0 {
-        return lent;
+    match lent {
+        [front @ .., NUL] => front,
+        _ => lent,
     }
-    let last = lent.len() - 1;
-    if lent[last] == 0 {
-        return &lent[..last];
-    }
-    lent
 }
 
 // The name that a line starts with: the program as lent, or the script without one final NUL.
+#[tactic(auto, unfolding(crate::specs::Name::name_of))]
 pub fn name_of(batch: bool, lent: &[u16]) -> &[u16]
     ensures { result.now ≡ name_of batch lent.now }
 {
-    if batch {
-        return script_of(lent);
-    }
-    lent
+    if batch { script_of(lent) } else { lent }
 }
 
 // What stands before the name: the 28 units of a batch line, or nothing.
@@ -58,11 +51,11 @@ fn put_front(batch: bool, out: &mut [u16]) -> usize
     ensures { Appended (front_of batch) result out.old out.new }
 {
     if batch {
-        let front = FRONT;
-        stores::copy_run(out, 0, &front);
-        return 28;
+        stores::copy_run(out, 0, &FRONT);
+        FRONT.len()
+    } else {
+        0
     }
-    0
 }
 
 // What stands before the arguments, at the front of the output: the front, and the name between two quotes.
@@ -70,21 +63,22 @@ pub fn put_head(batch: bool, name: &[u16], out: &mut [u16]) -> usize
     ensures { Appended (head_of batch name.now) result out.old out.new }
 {
     let at = put_front(batch, out);
-    stores::put(out, at, 34);
+    stores::put(out, at, QUOTE);
     let start = at + 1;
     stores::copy_run(out, start, name);
     let end = start + name.len();
-    stores::put(out, end, 34);
+    stores::put(out, end, QUOTE);
     end + 1
 }
 
 // Whether a path has a batch suffix. In the Rust: a closure of `spawn`, library/std/src/sys/process/windows.rs.
+#[tactic(auto, using(crate::proofs::Letters::letters), unfolding(rules::specs::Suffix::is_suffix))]
 pub fn has_bat_extension(path: &[u16]) -> bool
     ensures { result ≡ has_batch_suffix path.now }
 {
-    let n = path.len();
-    if n < 4 {
-        return false;
-    }
-    suffix::is_suffix(path[n - 4], path[n - 3], path[n - 2], path[n - 1])
+    // `.bat` and `.cmd`, each letter in either case.
+    matches!(
+        path,
+        [.., 46, 98 | 66, 97 | 65, 116 | 84] | [.., 46, 99 | 67, 109 | 77, 100 | 68]
+    )
 }

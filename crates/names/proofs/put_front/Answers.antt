@@ -8,6 +8,6 @@ pub returns-then-batch : goal.returns-then-batch
 unfolding front_of batch_front units
 returns-then-batch c = record { counts = rw c.if-batch.true; stores = rw c.if-batch.true c.copy_run.ensures }
 
-pub returns : goal.returns
+pub returns-else-batch : goal.returns-else-batch
 unfolding front_of
-returns c = record { counts = rw c.if-batch.false; stores = rw c.if-batch.false }
+returns-else-batch c = record { counts = rw c.if-batch.false; stores = rw c.if-batch.false }
