@@ -20,7 +20,7 @@ unfolding counted stored
 nothing_added run units out h = record { counts = omega arith; stores = rw (le-leb count_cap units h) }
 
 -- a place that is clipped to the output's end is as good
-clipped_place : (out run : List ℕ) (at from : ℕ) → from ≡ min at (length out) → sets out from run ≡ sets out at run
+clipped_place : (out run : List ℕ) (at from : ℕ) → from ≡ min (length out) at → sets out from run ≡ sets out at run
 clipped_place out run at from e = go (dec_le at (length out))
   where
     go : Dec (at ≤ length out) → sets out from run ≡ sets out at run
@@ -30,7 +30,7 @@ clipped_place out run at from e = go (dec_le at (length out))
         sets_out out from run (omega arith) ∙ sym (sets_out out at run (omega arith))
 
 -- a run at the front of the rest that was lent, as the code's rule has it back
-pub in_the_rest : (out run rest : List ℕ) (at from n : ℕ) → from ≡ min at (length out) → Appended run n (take (length out - from) (drop from out)) rest
+pub in_the_rest : (out run rest : List ℕ) (at from n : ℕ) → from ≡ min (length out) at → Appended run n (take (length out - from) (drop from out)) rest
     → take from out ++ (rest ++ drop (length out - from) (drop from out)) ≡ sets out at run
 in_the_rest out run rest at from n e a =
     let s : rest ≡ sets (drop from out) 0 run = rw part_is at a.stores in
@@ -38,7 +38,7 @@ in_the_rest out run rest at from n e a =
 
 module _ (units : ℕ) (h : units < count_cap) where
   -- a unit, and a run in the rest behind it
-  pub unit_and_run : (x : ℕ) (run before out rest : List ℕ) (from n count : ℕ) → out ≡ set before units x → from ≡ min (units + 1) (length out)
+  pub unit_and_run : (x : ℕ) (run before out rest : List ℕ) (from n count : ℕ) → out ≡ set before units x → from ≡ min (length out) (units + 1)
       → Appended run n (take (length out - from) (drop from out)) rest → count ≡ counted (units + 1) n
       → Added (x ∷ run) units count before (take from out ++ (rest ++ drop (length out - from) (drop from out)))
   unfolding counted stored

@@ -22,11 +22,5 @@ pub fn limit_of(batch: bool) -> usize
 pub fn count_on(units: usize, more: usize) -> usize
     ensures { result ≡ counted units more }
 {
-    if COUNT_CAP <= units {
-        return COUNT_CAP;
-    }
-    if COUNT_CAP - units <= more {
-        return COUNT_CAP;
-    }
-    units + more
+    units.saturating_add(more).min(COUNT_CAP)
 }

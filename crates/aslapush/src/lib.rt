@@ -119,8 +119,7 @@ pub extern "C" fn aslapush_has_bat_extension(path: &[u16]) -> u32
 pub extern "C" fn aslapush_class_of(unit: u16) -> u8
     ensures { result ≡ class_of unit }
 {
-    let classes = units::classes::classes();
-    units::classes::class_of(&classes, unit)
+    units::classes::Classes::new().class_of(unit)
 }
 
 // Start and length of one argument's part in the lent text; 0 and 0 for an index not in the table or a span reaching past the text.

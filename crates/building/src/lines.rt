@@ -5,7 +5,7 @@ ghost use Rattle.rules.specs.Building.{either_line};
 
 use crate::{turns, works};
 use rules::{Line, Refusal};
-use units::classes;
+use units::classes::Classes;
 
 // Builds a line.
 pub fn build(
@@ -18,7 +18,7 @@ pub fn build(
 ) -> Result<Line, Refusal>
     ensures { Answered (either_line batch force_quotes lent.now records.now text.now (length out.old)) (built_said result) out.old out.new }
 {
-    let classes = classes::classes();
+    let classes = Classes::new();
     let judged = records::first_fault(text, records);
     let mut work = works::begin_judged(batch, force_quotes, records.len() / 3, judged);
     while work.going {

@@ -8,37 +8,44 @@ use crate::works::{Pass, Work};
 use adding::limits;
 use rules::Refusal;
 
+// The last quote of a batch line.
+const QUOTE: u16 = 34;
+
+// How many units stand round the name of an ordinary line and round the arguments: two quotes.
+const LINE_FRAME: usize = 2;
+
+// The same in a batch line, with the last quote behind the arguments.
+const BATCH_FRAME: usize = 31;
+
 // How many units stand round the arguments: before them, and behind them the last quote of a batch line.
 fn frame_units(batch: bool, name: &[u16]) -> usize
     ensures { result ≡ frame_units batch name.now }
 {
-    if batch {
-        return limits::count_on(name.len(), 31);
-    }
-    limits::count_on(name.len(), 2)
+    let around = if batch { BATCH_FRAME } else { LINE_FRAME };
+    limits::count_on(name.len(), around)
 }
 
 // Behind the record pass: 7, then 5 for program or script. The next one begins with what stands round the arguments.
 pub fn after_records(work: Work, lent: &[u16]) -> Work
     ensures { result ≡ after_records lent.now work }
 {
-    let style = work.style;
-    if names::is_no_script(style.batch, lent) {
+    let batch = work.style.batch;
+    if names::is_no_script(batch, lent) {
         return works::stop(work, Refusal::Script);
     }
-    let name = names::name_of(style.batch, lent);
+    let name = names::name_of(batch, lent);
     if scans::has_nul(name) {
         return works::stop(work, Refusal::Nul(0));
     }
-    works::enter(work, Pass::Units, frame_units(style.batch, name))
+    works::enter(work, Pass::Units, frame_units(batch, name))
 }
 
 // Into writing: what stands before the arguments. Nothing is stored before this.
 fn open(work: Work, lent: &[u16], out: &mut [u16]) -> Work
     ensures { Staged (opened lent.now work) (opened_out lent.now work out.old) result out.new }
 {
-    let style = work.style;
-    let units = names::put_head(style.batch, names::name_of(style.batch, lent), out);
+    let batch = work.style.batch;
+    let units = names::put_head(batch, names::name_of(batch, lent), out);
     works::enter(work, Pass::Write, units)
 }
 
@@ -46,30 +53,26 @@ fn open(work: Work, lent: &[u16], out: &mut [u16]) -> Work
 fn surely_fits(batch: bool, units: usize, room: usize) -> bool
     ensures { result ≡ surely_fits batch units room }
 {
-    if limits::limit_of(batch) < units {
-        return false;
-    }
-    units <= room
+    units <= limits::limit_of(batch) && units <= room
 }
 
 // Behind the units pass: where even the most that the arguments can take fits the limit and the room, nothing is measured.
 pub fn after_units(work: Work, lent: &[u16], out: &mut [u16]) -> Work
     ensures { Staged (after_units lent.now (length out.old) work) (after_units_out lent.now work out.old) result out.new }
 {
-    let style = work.style;
-    if surely_fits(style.batch, work.units, out.len()) {
+    let batch = work.style.batch;
+    if surely_fits(batch, work.units, out.len()) {
         return open(work, lent, out);
     }
-    let name = names::name_of(style.batch, lent);
-    works::enter(work, Pass::Measure, frame_units(style.batch, name))
+    let name = names::name_of(batch, lent);
+    works::enter(work, Pass::Measure, frame_units(batch, name))
 }
 
 // Behind measuring: 2, then 4, both on the whole line.
 pub fn after_measuring(work: Work, lent: &[u16], out: &mut [u16]) -> Work
     ensures { Staged (after_measuring lent.now (length out.old) work) (after_measuring_out lent.now work out.old) result out.new }
 {
-    let style = work.style;
-    if limits::limit_of(style.batch) < work.units {
+    if limits::limit_of(work.style.batch) < work.units {
         return works::stop(work, Refusal::Length);
     }
     if out.len() < work.units {
@@ -82,11 +85,11 @@ pub fn after_measuring(work: Work, lent: &[u16], out: &mut [u16]) -> Work
 pub fn after_writing(work: Work, out: &mut [u16]) -> Work
     ensures { Staged (after_writing work) (after_writing_out work out.old) result out.new }
 {
-    let style = work.style;
     let units = work.units;
-    if style.batch {
-        stores::put(out, units, 34);
-        return works::finish(work, limits::count_on(units, 1));
+    if work.style.batch {
+        stores::put(out, units, QUOTE);
+        works::finish(work, limits::count_on(units, 1))
+    } else {
+        works::finish(work, units)
     }
-    works::finish(work, units)
 }

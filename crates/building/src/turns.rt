@@ -1,6 +1,5 @@
 // One turn of building a line: the order of the passes, said once. Whoever has the records drives it.
 ghost use Rattle.std.specs.Prelude.{◌≡◌, ◌<◌};
-ghost use Rattle.units.specs.Table.{class_table};
 ghost use Rattle.building.specs.Passes.{lent_units};
 ghost use Rattle.building.specs.Works.{TakenRecord, Closed, Turned};
 
@@ -8,22 +7,21 @@ use crate::works::{Pass, Work};
 use crate::{stages, works};
 use adding::{judging, writing};
 use rules::Arg;
+use units::classes::Classes;
 
 // How much of an output of so many units a pass is lent: measuring is lent nothing.
 fn lent_units(pass: Pass, room: usize) -> usize
     ensures { result ≡ lent_units pass room }
 {
     match pass {
-        Pass::Records => 0,
-        Pass::Units => 0,
-        Pass::Measure => 0,
+        Pass::Records | Pass::Units | Pass::Measure => 0,
         Pass::Write => room,
     }
 }
 
 // The next record of the pass.
-fn take(work: Work, arg: Arg, classes: &[u8; 256], text: &[u16], out: &mut [u16]) -> Work
-    requires { (classes.now ≡ class_table) × (work.at < work.count) }
+fn take(work: Work, arg: Arg, classes: &Classes, text: &[u16], out: &mut [u16]) -> Work
+    requires { work.at < work.count }
     ensures { TakenRecord text.now arg work result out.old out.new }
 {
     let style = work.style;
@@ -48,8 +46,7 @@ fn take(work: Work, arg: Arg, classes: &[u8; 256], text: &[u16], out: &mut [u16]
 fn close(work: Work, lent: &[u16], out: &mut [u16]) -> Work
     ensures { Closed lent.now work result out.old out.new }
 {
-    let pass = work.pass;
-    match pass {
+    match work.pass {
         Pass::Records => stages::after_records(work, lent),
         Pass::Units => stages::after_units(work, lent, out),
         Pass::Measure => stages::after_measuring(work, lent, out),
@@ -61,12 +58,11 @@ fn close(work: Work, lent: &[u16], out: &mut [u16]) -> Work
 pub fn turn(
     work: Work,
     arg: Arg,
-    classes: &[u8; 256],
+    classes: &Classes,
     lent: &[u16],
     text: &[u16],
     out: &mut [u16],
 ) -> Work
-    requires { classes.now ≡ class_table }
     ensures { Turned lent.now text.now arg work result out.old out.new }
 {
     if work.at < work.count {

@@ -72,16 +72,14 @@ pub(crate) fn begin_judged(
 pub(crate) fn enter(work: Work, pass: Pass, units: usize) -> Work
     ensures { result ≡ entered work pass units }
 {
-    let style = work.style;
     Work {
-        count: work.count,
         units,
         at: 0,
         place: 0,
         number: 0,
-        style,
         pass,
         going: true,
+        ..work
     }
 }
 
@@ -89,17 +87,11 @@ pub(crate) fn enter(work: Work, pass: Pass, units: usize) -> Work
 pub(crate) fn stop(work: Work, refusal: Refusal) -> Work
     ensures { result ≡ stopped work refusal }
 {
-    let style = work.style;
-    let pass = work.pass;
     Work {
-        count: work.count,
-        units: work.units,
-        at: work.at,
         place: refusals::place_of(refusal),
         number: refusals::number_of(refusal),
-        style,
-        pass,
         going: false,
+        ..work
     }
 }
 
@@ -107,17 +99,12 @@ pub(crate) fn stop(work: Work, refusal: Refusal) -> Work
 pub(crate) fn finish(work: Work, units: usize) -> Work
     ensures { result ≡ finished work units }
 {
-    let style = work.style;
-    let pass = work.pass;
     Work {
-        count: work.count,
         units,
-        at: work.at,
         place: 0,
         number: 0,
-        style,
-        pass,
         going: false,
+        ..work
     }
 }
 
@@ -126,18 +113,14 @@ pub(crate) fn go_on(work: Work, progress: Result<usize, Refusal>) -> Work
     requires { work.at < work.count }
     ensures { result ≡ progressed work progress }
 {
-    let style = work.style;
-    let pass = work.pass;
     match progress {
         Ok(units) => Work {
-            count: work.count,
             units,
             at: work.at + 1,
             place: 0,
             number: 0,
-            style,
-            pass,
             going: true,
+            ..work
         },
         Err(refusal) => stop(work, refusal),
     }

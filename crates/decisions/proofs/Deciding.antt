@@ -5,24 +5,31 @@ use native.Mathlib.Numerals.{add-one}
 use mathlib.Core.Path.{◌≡◌, refl, sym, ◌∙◌}
 use mathlib.Core.Bool.{Bool, true, false}
 use mathlib.Core.List.{List, [], ◌∷◌}
+use borrow.Author.Tests.{ne_eqb}
 use lib.Dec.{eqb}
-use lib.ListN.{length, drop, get_or, drop_of_length-le}
+use lib.ListN.{length, drop, get_or}
 use lib.Seq.{drop-cons}
-use Rattle.rules.specs.Choice.{either, any}
+use Rattle.std.specs.Prelude.{◌==◌}
+use Rattle.rules.specs.Choice.{either, any, is_empty}
 use Rattle.rules.specs.Unit.{class_of}
 use Rattle.laws.specs.Class.{class_most, class_tests}
 use Rattle.decisions.specs.Settling.{is_settling, settles_by}
 
 -- one unit further of a search for any that passes the test
-pub any_turn : (p : ℕ → Bool) (xs : List ℕ) (i : ℕ) (found : Bool) → i < length xs
-    → either (either found (p (get_or xs i 0))) (any p (drop (i + 1) xs)) ≡ either found (any p (drop i xs))
-any_turn p xs i true l = refl
-any_turn p xs i false l = rw (add-one i, drop-cons xs i 0)
+pub any_turn : (p : ℕ → Bool) (xs : List ℕ) (i : ℕ) (found : Bool) → i < length xs → found ≡ p (get_or xs i 0)
+    → any p (drop i xs) ≡ either found (any p (drop (i + 1) xs))
+any_turn p xs i found l e = rw (e, add-one i, drop-cons xs i 0)
 
--- the end of the search
-pub any_end : (p : ℕ → Bool) (xs : List ℕ) (i : ℕ) (found : Bool) → length xs ≤ i → found ≡ either found (any p (drop i xs))
-any_end p xs i true l = refl
-any_end p xs i false l = rw drop_of_length-le
+-- a list is empty where its length is 0
+pub counted_empty : (xs : List ℕ) → is_empty xs ≡ (length xs == 0)
+counted_empty [] = refl
+counted_empty (x ∷ xs) = rw (ne_eqb (length (x ∷ xs)) 0 (λ e. omega arith))
+
+-- tests asked in turn
+pub in_turn : (a b c d : Bool) {v r : Bool} → v ≡ either (either a b) c → r ≡ either v d → r ≡ either a (either b (either c d))
+in_turn true b c d e f = f ∙ rw e
+in_turn false true c d e f = f ∙ rw e
+in_turn false false c d e f = f ∙ rw e
 
 -- ---- a unit's class
 

@@ -6,7 +6,13 @@ ghost use Rattle.laws.specs.Placed.{Appended, Placed};
 ghost use Rattle.quoting.specs.Emitted.{mark_for, count_on, stretch, edge, formed, Emits};
 
 use crate::marks;
-use units::parts;
+use crate::marks::{BACKSLASH, QUOTE};
+
+// What stands for a percent in a batch argument: `%%cd:~,%`.
+const HIDDEN: [u16; 8] = [37, 37, 99, 100, 58, 126, 44, 37];
+
+// How many units go one by one behind a stretch that is copied.
+const NEAR: usize = 16;
 
 // How a regular argument is written.
 #[derive(Clone, Copy)]
@@ -27,7 +33,7 @@ fn put_slashes(out: &mut [u16], at: usize, count: usize) -> usize
     requires { at + count < 2 ^ 64 }
     ensures { Placed (slashes count) at result out.old out.new }
 {
-    stores::repeat(out, at, 92, count);
+    stores::repeat(out, at, BACKSLASH, count);
     at + count
 }
 
@@ -35,7 +41,7 @@ fn put_slashes(out: &mut [u16], at: usize, count: usize) -> usize
 fn before_quote(batch: bool) -> u16
     ensures { result ≡ pick batch 34 92 }
 {
-    if batch { 34 } else { 92 }
+    if batch { QUOTE } else { BACKSLASH }
 }
 
 // What stands for a quote mark or a percent behind k backslashes that are written already.
@@ -43,15 +49,15 @@ fn put_mark(out: &mut [u16], at: usize, unit: u16, k: usize, batch: bool) -> usi
     requires { at + length (mark_for batch unit k) < 2 ^ 64 }
     ensures { Placed (mark_for batch unit k) at result out.old out.new }
 {
-    if unit != 34 {
-        let text = [37u16, 37, 99, 100, 58, 126, 44, 37];
-        stores::copy_run(out, at, &text);
-        return at + 8;
+    if unit == QUOTE {
+        let to = put_slashes(out, at, k);
+        stores::put(out, to, before_quote(batch));
+        stores::put(out, to + 1, QUOTE);
+        to + 2
+    } else {
+        stores::copy_run(out, at, &HIDDEN);
+        at + HIDDEN.len()
     }
-    let to = put_slashes(out, at, k);
-    stores::put(out, to, before_quote(batch));
-    stores::put(out, to + 1, 34);
-    to + 2
 }
 
 // How many backslashes stand right before the next unit.
@@ -59,7 +65,7 @@ fn count_on(k: usize, unit: u16) -> usize
     requires { k + 1 < 2 ^ 64 }
     ensures { result ≡ count_on k unit }
 {
-    if unit == 92 { k + 1 } else { 0 }
+    if unit == BACKSLASH { k + 1 } else { 0 }
 }
 
 // What stands for one unit.
@@ -84,10 +90,8 @@ fn put_units(out: &mut [u16], start: Spot, part: &[u16], batch: bool) -> Spot
     ensures { Emits batch start.k part.now start.to result.to result.k out.old out.new }
 {
     let mut spot = start;
-    let mut i = 0;
-    while i < part.len() {
-        spot = put_unit(out, spot, part[i], batch);
-        i += 1;
+    for &unit in part {
+        spot = put_unit(out, spot, unit, batch);
     }
     spot
 }
@@ -111,7 +115,7 @@ fn put_content(out: &mut [u16], at: usize, arg: &[u16], batch: bool) -> Spot
         let rest = &arg[i..];
         let n = marks::plain_eights(rest, batch);
         stores::copy_run(out, spot.to, &rest[..n]);
-        let end = parts::smaller(n + 16, rest.len());
+        let end = rest.len().min(n + NEAR);
         let next = Spot {
             to: spot.to + n,
             k: still_count(spot.k, n),
@@ -128,10 +132,11 @@ fn put_edge(out: &mut [u16], at: usize, quoted: bool) -> usize
     ensures { Placed (edge quoted) at result out.old out.new }
 {
     if quoted {
-        stores::put(out, at, 34);
-        return at + 1;
+        stores::put(out, at, QUOTE);
+        at + 1
+    } else {
+        at
     }
-    at
 }
 
 // The backslashes at the end of an argument, once more if it stands in quotes.
@@ -140,13 +145,14 @@ fn put_end(out: &mut [u16], spot: Spot, quoted: bool) -> usize
     ensures { Placed (slashes (pick quoted spot.k 0)) spot.to result out.old out.new }
 {
     if quoted {
-        return put_slashes(out, spot.to, spot.k);
+        put_slashes(out, spot.to, spot.k)
+    } else {
+        spot.to
     }
-    spot.to
 }
 
-// The units of an argument's form, at the front of what is lent. Lent an empty part, it measures.
-pub fn put_form(out: &mut [u16], arg: &[u16], shape: Shape) -> usize
+// The units of an argument with the quotes round it, at the front of what is lent. Lent an empty part, it measures.
+fn put_marked(out: &mut [u16], arg: &[u16], shape: Shape) -> usize
     requires { length (formed shape.batch shape.quoted arg.now) < 2 ^ 64 }
     ensures { Appended (formed shape.batch shape.quoted arg.now) result out.old out.new }
 {
@@ -157,10 +163,22 @@ pub fn put_form(out: &mut [u16], arg: &[u16], shape: Shape) -> usize
 }
 
 // The units of an argument that is written as it is, and the quotes round it, at the front of what is lent.
-pub fn put_plain(out: &mut [u16], arg: &[u16], quoted: bool) -> usize
+fn put_plain(out: &mut [u16], arg: &[u16], quoted: bool) -> usize
     ensures { Appended (edge quoted ++ arg.now ++ edge quoted) result out.old out.new }
 {
     let at = put_edge(out, 0, quoted);
     stores::copy_run(out, at, arg);
     put_edge(out, at + arg.len(), quoted)
+}
+
+// An argument's form, at the front of what is lent. Most arguments have no mark, and are one copy.
+pub fn put_form(out: &mut [u16], arg: &[u16], shape: Shape) -> usize
+    requires { length (formed shape.batch shape.quoted arg.now) < 2 ^ 64 }
+    ensures { Appended (formed shape.batch shape.quoted arg.now) result out.old out.new }
+{
+    if marks::is_plain(arg, shape.batch) {
+        put_plain(out, arg, shape.quoted)
+    } else {
+        put_marked(out, arg, shape)
+    }
 }

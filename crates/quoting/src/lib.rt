@@ -1,14 +1,14 @@
 // The form of one argument, ordinary and batch. One routine measures and writes: what has no room is counted and not stored.
 #![tactic(auto)]
 
-ghost use Rattle.std.specs.Prelude.{◌≡◌, ◌<◌, length};
+ghost use Rattle.std.specs.Prelude.{◌<◌, length};
 ghost use Rattle.rules.specs.Quoting.{form};
 ghost use Rattle.rules.specs.Batch.{batch_form};
 ghost use Rattle.rules.specs.Building.{written};
-ghost use Rattle.units.specs.Table.{class_table};
 ghost use Rattle.laws.specs.Placed.{Appended};
 
 use escapes::Shape;
+use units::classes::Classes;
 use units::kinds;
 
 mod escapes;
@@ -23,57 +23,32 @@ fn put_raw(out: &mut [u16], arg: &[u16]) -> usize
 }
 
 // One argument of an ordinary line, at the front of what is lent; the answer is how many units it has. In the Rust: `append_arg`.
-pub fn append_arg(
-    classes: &[u8; 256],
-    out: &mut [u16],
-    kind: u32,
-    arg: &[u16],
-    force_quotes: bool,
-) -> usize
-    requires { classes.now ≡ class_table }
+pub fn append_arg(out: &mut [u16], kind: u32, arg: &[u16], force_quotes: bool) -> usize
     ensures { Appended (written form force_quotes (record { kind = kind; content = arg.now })) result out.old out.new }
 {
-    if kinds::is_regular(kind) {
-        let quoted = decisions::needs_quotes(classes, arg, force_quotes);
-        if marks::is_plain(arg, false) {
-            return escapes::put_plain(out, arg, quoted);
-        }
-        return escapes::put_form(
-            out,
-            arg,
-            Shape {
-                quoted,
-                batch: false,
-            },
-        );
+    if !kinds::is_regular(kind) {
+        return put_raw(out, arg);
     }
-    put_raw(out, arg)
+    let quoted = decisions::needs_quotes(arg, force_quotes);
+    let batch = false;
+    escapes::put_form(out, arg, Shape { quoted, batch })
 }
 
 // One argument of a batch line, at the front of what is lent; the answer is how many units it has. In the Rust: `append_bat_arg`.
 pub fn append_bat_arg(
-    classes: &[u8; 256],
+    classes: &Classes,
     out: &mut [u16],
     kind: u32,
     arg: &[u16],
     force_quotes: bool,
 ) -> usize
-    requires { (classes.now ≡ class_table) × (length arg.now < 4294967296) }
+    requires { length arg.now < 4294967296 }
     ensures { Appended (written batch_form force_quotes (record { kind = kind; content = arg.now })) result out.old out.new }
 {
-    if kinds::is_regular(kind) {
-        let quoted = decisions::needs_batch_quotes(classes, arg, force_quotes);
-        if marks::is_plain(arg, true) {
-            return escapes::put_plain(out, arg, quoted);
-        }
-        return escapes::put_form(
-            out,
-            arg,
-            Shape {
-                quoted,
-                batch: true,
-            },
-        );
+    if !kinds::is_regular(kind) {
+        return put_raw(out, arg);
     }
-    put_raw(out, arg)
+    let quoted = decisions::needs_batch_quotes(classes, arg, force_quotes);
+    let batch = true;
+    escapes::put_form(out, arg, Shape { quoted, batch })
 }

@@ -4,28 +4,32 @@ ghost use Rattle.std.specs.Prelude.{◌≡◌, ◌+◌, ◌≤◌, length};
 ghost use Rattle.rules.specs.Record.{part};
 ghost use Rattle.quoting.specs.Emitted.{is_mark, other_mark, is_all_plain, PlainFront};
 
+// The quote mark, the percent and the backslash.
+pub const QUOTE: u16 = 34;
+
+const PERCENT: u16 = 37;
+
+pub const BACKSLASH: u16 = 92;
+
 // The unit that is replaced beside the quote mark: in a batch argument the percent, else no other, so the quote mark again.
 fn other_mark(batch: bool) -> u16
     ensures { result ≡ other_mark batch }
 {
-    if batch { 37 } else { 34 }
+    if batch { PERCENT } else { QUOTE }
 }
 
 // Whether a unit is replaced.
 pub fn is_mark(unit: u16, batch: bool) -> bool
     ensures { result ≡ is_mark batch unit }
 {
-    (unit == 34) | (unit == other_mark(batch))
+    unit == QUOTE || unit == other_mark(batch)
 }
 
 // Whether an argument is written as it is, but for the quotes round it: it has no mark and no backslash at its end.
 pub fn is_plain(arg: &[u16], batch: bool) -> bool
     ensures { result ≡ is_all_plain batch arg.now }
 {
-    if scans::ends_in_backslash(arg) {
-        return false;
-    }
-    !scans::has_either(arg, 34, other_mark(batch))
+    !scans::ends_in_backslash(arg) && !scans::has_either(arg, QUOTE, other_mark(batch))
 }
 
 // Whether the eight units from a place on are.
@@ -33,10 +37,7 @@ fn eight_plain(units: &[u16], at: usize, batch: bool) -> bool
     requires { at + 8 ≤ length units.now }
     ensures { result ≡ is_all_plain batch (part units.now at 8) }
 {
-    if scans::eight_have_either(units, at, 34, other_mark(batch)) {
-        return false;
-    }
-    units[at + 7] != 92
+    !scans::eight_have_either(units, at, QUOTE, other_mark(batch)) && units[at + 7] != BACKSLASH
 }
 
 // How many units at the front are plain, taken by eights.
@@ -44,12 +45,8 @@ pub fn plain_eights(rest: &[u16], batch: bool) -> usize
     ensures { PlainFront batch rest.now result }
 {
     let mut n = 0;
-    while n + 8 <= rest.len() {
-        if eight_plain(rest, n, batch) {
-            n += 8;
-        } else {
-            return n;
-        }
+    while n + 8 <= rest.len() && eight_plain(rest, n, batch) {
+        n += 8;
     }
     n
 }

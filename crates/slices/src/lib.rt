@@ -8,7 +8,7 @@ ghost use Rattle.rules.specs.Record.{flat_of};
 
 use building::{turns, works};
 use rules::{Arg, Line, Refusal};
-use units::classes;
+use units::classes::Classes;
 
 // Builds a line of either kind. The one loop of this crate: each turn hands on the state by value.
 fn make_line_of(
@@ -21,8 +21,7 @@ fn make_line_of(
 ) -> Result<Line, Refusal>
     ensures { Answered (either_line batch force_quotes lent.now (flat_of args.now) text.now (length out.old)) (built_said result) out.old out.new }
 {
-    let classes = classes::classes();
-    let table = &classes;
+    let classes = Classes::new();
     let mut work = works::begin(batch, force_quotes, args.len());
     while work.going {
         let at = work.at;
@@ -34,7 +33,7 @@ fn make_line_of(
         if at < args.len() {
             arg = args[at];
         }
-        work = turns::turn(work, arg, table, lent, text, out);
+        work = turns::turn(work, arg, &classes, lent, text, out);
     }
     works::answer_of(work)
 }

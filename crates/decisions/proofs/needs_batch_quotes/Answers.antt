@@ -1,20 +1,38 @@
 -- `decisions::needs_batch_quotes` meets its contract. Assumes nothing.
-use Rattle.rules.specs.Batch.{needs_batch_quotes}
-use Rattle.laws.specs.Empty.{empty, filled}
+use mathlib.Core.Path.{◌≡◌}
+use Rattle.rules.specs.Choice.{any, either, is_empty}
+use Rattle.rules.specs.Unit.{is_forcing}
+use Rattle.rules.specs.Batch.{ends_in_backslash, needs_batch_quotes}
+use Rattle.decisions.proofs.Deciding.{counted_empty, in_turn}
 use Rattle.decisions.proofs.needs_batch_quotes.Goals as goal
-
-pub returns-then-force : goal.returns-then-force
-unfolding needs_batch_quotes
-returns-then-force c = rw c.if-force.true
-
-pub returns-then-arg-eq0 : goal.returns-then-arg-eq0
-unfolding needs_batch_quotes
-returns-then-arg-eq0 c = rw (c.if-force.false, empty c.args.arg.now c.if-arg-eq0.true)
+use Rattle.decisions.proofs.needs_batch_quotes.Goals.{then-force, else-force, then-is_empty, else-is_empty}
 
 pub returns-then-ends_in_backslash : goal.returns-then-ends_in_backslash
 unfolding needs_batch_quotes
-returns-then-ends_in_backslash c = rw (c.if-force.false, filled c.args.arg.now c.if-arg-eq0.false, ← c.ends_in_backslash.ensures, c.if-ends_in_backslash.true)
+returns-then-ends_in_backslash c =
+    let front : c.if-force.value ≡ either c.args.force (is_empty c.args.arg.now) =
+    elim c.if-force.branch [
+      | then-force w ↦ rw (w.value-is, w.if-force.true)
+      | else-force w ↦ rw (w.value-is, w.is_empty.ensures, w.if-force.false, counted_empty)
+    ] in
+    let back : c.if-is_empty.value ≡ either (either c.args.force (is_empty c.args.arg.now)) (ends_in_backslash c.args.arg.now) =
+    elim c.if-is_empty.branch [
+      | then-is_empty w ↦ rw (← front, w.value-is, w.if-is_empty.true)
+      | else-is_empty w ↦ rw (← front, w.value-is, w.if-is_empty.false) w.ends_in_backslash.ensures
+    ] in
+    in_turn c.args.force (is_empty c.args.arg.now) (ends_in_backslash c.args.arg.now) (any is_forcing c.args.arg.now) back (rw c.if-ends_in_backslash.true)
 
-pub returns : goal.returns
+pub returns-else-ends_in_backslash : goal.returns-else-ends_in_backslash
 unfolding needs_batch_quotes
-returns c = rw (c.if-force.false, filled c.args.arg.now c.if-arg-eq0.false, ← c.ends_in_backslash.ensures, c.if-ends_in_backslash.false) c.has_settling.ensures
+returns-else-ends_in_backslash c =
+    let front : c.if-force.value ≡ either c.args.force (is_empty c.args.arg.now) =
+    elim c.if-force.branch [
+      | then-force w ↦ rw (w.value-is, w.if-force.true)
+      | else-force w ↦ rw (w.value-is, w.is_empty.ensures, w.if-force.false, counted_empty)
+    ] in
+    let back : c.if-is_empty.value ≡ either (either c.args.force (is_empty c.args.arg.now)) (ends_in_backslash c.args.arg.now) =
+    elim c.if-is_empty.branch [
+      | then-is_empty w ↦ rw (← front, w.value-is, w.if-is_empty.true)
+      | else-is_empty w ↦ rw (← front, w.value-is, w.if-is_empty.false) w.ends_in_backslash.ensures
+    ] in
+    in_turn c.args.force (is_empty c.args.arg.now) (ends_in_backslash c.args.arg.now) (any is_forcing c.args.arg.now) back (rw c.if-ends_in_backslash.false c.has_settling.ensures)

@@ -1,21 +1,22 @@
 -- `decisions::needs_quotes` meets its contract. Assumes nothing.
-use mathlib.Core.Path.{◌∙◌, sym}
+use mathlib.Core.Path.{◌∙◌}
 use Rattle.rules.specs.Quoting.{needs_quotes}
-use Rattle.laws.specs.Empty.{empty, filled}
+use Rattle.decisions.proofs.Deciding.{counted_empty}
 use Rattle.decisions.proofs.needs_quotes.Goals as goal
+use Rattle.decisions.proofs.needs_quotes.Goals.{then-force, else-force}
 
-pub returns-then-force : goal.returns-then-force
+pub returns-then-is_empty : goal.returns-then-is_empty
 unfolding needs_quotes
-returns-then-force c = rw c.if-force.true
+returns-then-is_empty c =
+    elim c.if-force.branch [
+      | then-force w ↦ c.if-is_empty.true ∙ rw w.if-force.true
+      | else-force w ↦ rw (w.if-force.false, counted_empty, ← w.is_empty.ensures, ← w.value-is, c.if-is_empty.true)
+    ]
 
-pub returns-then-arg-eq0 : goal.returns-then-arg-eq0
+pub returns-else-is_empty : goal.returns-else-is_empty
 unfolding needs_quotes
-returns-then-arg-eq0 c = rw (c.if-force.false, empty c.args.arg.now c.if-arg-eq0.true)
-
-pub returns-then-has_blank : goal.returns-then-has_blank
-unfolding needs_quotes
-returns-then-has_blank c = rw (c.if-force.false, filled c.args.arg.now c.if-arg-eq0.false) c.has_settling.ensures
-
-pub returns : goal.returns
-unfolding needs_quotes
-returns c = rw (c.if-force.false, filled c.args.arg.now c.if-arg-eq0.false) (sym c.if-has_blank.false ∙ c.has_blank.ensures)
+returns-else-is_empty c =
+    elim c.if-force.branch [
+      | then-force w ↦ cc
+      | else-force w ↦ rw (w.if-force.false, counted_empty, ← w.is_empty.ensures, ← w.value-is, c.if-is_empty.false) c.has_blank.ensures
+    ]

@@ -6,6 +6,6 @@ pub returns-then-style : goal.returns-then-style
 unfolding rule_of
 returns-then-style c = rw c.if-style.true c.append_bat_arg.ensures
 
-pub returns : goal.returns
+pub returns-else-style : goal.returns-else-style
 unfolding rule_of
-returns c = rw c.if-style.false c.append_arg.ensures
+returns-else-style c = rw c.if-style.false c.append_arg.ensures

@@ -4,10 +4,10 @@ use mathlib.Core.Path.{refl}
 use Rattle.building.proofs.Forms.{ended_in}
 use Rattle.building.proofs.stages.after_writing.Goals as goal
 
-pub returns-then-style : goal.returns-then-style
-returns-then-style c =
+pub returns-then-work : goal.returns-then-work
+returns-then-work c =
     let a = c.args in
-    ended_in a.work a.out.now true c.if-style.true (rw (← c.count_on.ensures) c.finish.ensures) c.put.ensures
+    ended_in a.work a.out.now true c.if-work.true (rw (← c.count_on.ensures) c.finish.ensures) c.put.ensures
 
-pub returns : goal.returns
-returns c = ended_in c.args.work c.args.out.now false c.if-style.false c.finish-2.ensures refl
+pub returns-else-work : goal.returns-else-work
+returns-else-work c = ended_in c.args.work c.args.out.now false c.if-work.false c.finish-else-work.ensures refl

@@ -2,9 +2,11 @@
 use mathlib.Core.Path.{◌∙◌}
 use Rattle.building.proofs.Frame.{batch_frame, plain_frame}
 use Rattle.building.proofs.stages.frame_units.Goals as goal
-
-pub returns-then-batch : goal.returns-then-batch
-returns-then-batch c = rw c.if-batch.true (c.count_on.ensures ∙ batch_frame c.args.name.now)
+use Rattle.building.proofs.stages.frame_units.Goals.{then-batch, else-batch}
 
 pub returns : goal.returns
-returns c = rw c.if-batch.false (c.count_on-2.ensures ∙ plain_frame c.args.name.now)
+returns c =
+    elim c.if-batch.branch [
+      | then-batch w ↦ rw w.if-batch.true (c.count_on.ensures ∙ rw w.around-is (batch_frame c.args.name.now))
+      | else-batch w ↦ rw w.if-batch.false (c.count_on.ensures ∙ rw w.around-is (plain_frame c.args.name.now))
+    ]

@@ -2,8 +2,8 @@
 use borrow.Author.Tests.{eq-eqb, ne_eqb}
 use Rattle.quoting.proofs.escapes.count_on.Goals as goal
 
-pub returns-then-unit-eq92 : goal.returns-then-unit-eq92
-returns-then-unit-eq92 c = rw (eq-eqb _ 92 c.if-unit-eq92.true)
+pub returns-then-unit-eq-BACKSLASH : goal.returns-then-unit-eq-BACKSLASH
+returns-then-unit-eq-BACKSLASH c = rw (eq-eqb _ 92 c.if-unit-eq-BACKSLASH.true)
 
-pub returns-else-unit-eq92 : goal.returns-else-unit-eq92
-returns-else-unit-eq92 c = rw (ne_eqb _ 92 c.if-unit-eq92.false)
+pub returns-else-unit-eq-BACKSLASH : goal.returns-else-unit-eq-BACKSLASH
+returns-else-unit-eq-BACKSLASH c = rw (ne_eqb _ 92 c.if-unit-eq-BACKSLASH.false)

@@ -16,7 +16,7 @@ abbrev rest : List ℕ → ℕ → List ℕ
 rest xs i = take (length xs - i) (drop i xs)
 
 -- the units that go one by one end within the argument, and behind the n plain ones, and where the argument goes on there are some
-within : (xs : List ℕ) (i n end : ℕ) → n ≤ length (rest xs i) → end ≡ min (n + 16) (length (rest xs i)) → i < length xs
+within : (xs : List ℕ) (i n end : ℕ) → n ≤ length (rest xs i) → end ≡ min (length (rest xs i)) (n + 16) → i < length xs
     → (n ≤ end) × (i + end ≤ length xs) × (0 < end)
 within xs i n end h e l =
     let w = ap length (part_is i xs) ∙ length-drop i xs in
@@ -42,26 +42,26 @@ put_units-spot-requires c =
     let xs = c.args.arg.now in
     let l = c.loop-i in
     let n = c.plain_eights-n.result in
-    let end = c.smaller-end.result in
-    let w = within xs l.i n end c.plain_eights-n.ensures.inside c.smaller-end.ensures c.loop-i-test.true in
+    let end = c.min-end.result in
+    let w = within xs l.i n end c.plain_eights-n.ensures.inside c.min-end.ensures c.loop-i-test.true in
     let u = units_are xs l.i n end in
     let g = plain_further l.i _ (part_is l.i xs) c.plain_eights-n.ensures l.invariant.1 l.invariant.0 c.copy_run.ensures c.still_count.ensures in
     let room = rw (← u) at (room_further (l.i + n) (end - n) g) in
     (omega (arith, c.requires, room), omega (arith, g.few, w.1, ap length u, length-take (end - n) (drop (l.i + n) xs), length-drop (l.i + n) xs))
 
 pub overflow_add-i : goal.overflow_add-i
-overflow_add-i c = omega (arith, within c.args.arg.now c.loop-i.i _ _ c.plain_eights-n.ensures.inside c.smaller-end.ensures c.loop-i-test.true)
+overflow_add-i c = omega (arith, within c.args.arg.now c.loop-i.i _ _ c.plain_eights-n.ensures.inside c.min-end.ensures c.loop-i-test.true)
 
 pub loop-i-smaller : goal.loop-i-smaller
-loop-i-smaller c = omega (arith, within c.args.arg.now c.loop-i.i _ _ c.plain_eights-n.ensures.inside c.smaller-end.ensures c.loop-i-test.true)
+loop-i-smaller c = omega (arith, within c.args.arg.now c.loop-i.i _ _ c.plain_eights-n.ensures.inside c.min-end.ensures c.loop-i-test.true)
 
 pub loop-i-preserved : goal.loop-i-preserved
 loop-i-preserved c =
     let xs = c.args.arg.now in
     let l = c.loop-i in
     let n = c.plain_eights-n.result in
-    let end = c.smaller-end.result in
-    let w = within xs l.i n end c.plain_eights-n.ensures.inside c.smaller-end.ensures c.loop-i-test.true in
+    let end = c.min-end.result in
+    let w = within xs l.i n end c.plain_eights-n.ensures.inside c.min-end.ensures c.loop-i-test.true in
     let g = plain_further l.i _ (part_is l.i xs) c.plain_eights-n.ensures l.invariant.1 l.invariant.0 c.copy_run.ensures c.still_count.ensures in
     let e : l.i + n + (end - n) ≡ l.i + end = omega arith in
     (omega (arith, w), rw e at (part_further (l.i + n) (end - n) g (rw (units_are xs l.i n end) at c.put_units-spot.ensures) (omega (arith, w))))

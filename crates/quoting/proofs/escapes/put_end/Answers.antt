@@ -10,5 +10,5 @@ put_slashes-requires c = omega (arith, rw c.if-quoted.true at c.requires)
 pub returns-then-quoted : goal.returns-then-quoted
 returns-then-quoted c = rw c.if-quoted.true c.put_slashes.ensures
 
-pub returns : goal.returns
-returns c = rw c.if-quoted.false (record { ends = sym (add-zero _); stores = refl })
+pub returns-else-quoted : goal.returns-else-quoted
+returns-else-quoted c = rw c.if-quoted.false (record { ends = sym (add-zero _); stores = refl })

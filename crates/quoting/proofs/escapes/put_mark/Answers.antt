@@ -14,28 +14,28 @@ use Rattle.quoting.proofs.escapes.put_mark.Goals as goal
 room : (batch : Bool) (at unit k : ℕ) → unit ≡ 34 → at + length (mark_for batch unit k) < 2 ^ 64 → at + (k + 2) < 2 ^ 64
 room batch at unit k e h = omega (arith, h, rw (eq-eqb _ 34 e) at (mark_length batch unit k))
 
-pub overflow_add-result : goal.overflow_add-result
-overflow_add-result c = let a = c.args in omega (arith, c.requires, rw (ne_eqb _ 34 c.if-unit-ne34.true) at (mark_length a.batch a.unit a.k))
+pub overflow_add-result-else-unit-eq-QUOTE : goal.overflow_add-result-else-unit-eq-QUOTE
+overflow_add-result-else-unit-eq-QUOTE c = let a = c.args in omega (arith, c.requires, rw (ne_eqb _ 34 c.if-unit-eq-QUOTE.false) at (mark_length a.batch a.unit a.k))
 
-pub returns-then-unit-ne34 : goal.returns-then-unit-ne34
+pub returns-else-unit-eq-QUOTE : goal.returns-else-unit-eq-QUOTE
 unfolding mark_for
-returns-then-unit-ne34 c = rw (ne_eqb _ 34 c.if-unit-ne34.true) (record { ends = refl; stores = c.copy_run.ensures })
+returns-else-unit-eq-QUOTE c = rw (ne_eqb _ 34 c.if-unit-eq-QUOTE.false) (record { ends = refl; stores = c.copy_run.ensures })
 
 pub put_slashes-to-requires : goal.put_slashes-to-requires
-put_slashes-to-requires c = let a = c.args in omega (arith, room a.batch a.at a.unit a.k c.if-unit-ne34.false c.requires)
+put_slashes-to-requires c = let a = c.args in omega (arith, room a.batch a.at a.unit a.k c.if-unit-eq-QUOTE.true c.requires)
 
 pub overflow_add-to : goal.overflow_add-to
 overflow_add-to c =
     let a = c.args in
-    omega (arith, room a.batch a.at a.unit a.k c.if-unit-ne34.false c.requires, rw length-replicate at c.put_slashes-to.ensures.ends)
+    omega (arith, room a.batch a.at a.unit a.k c.if-unit-eq-QUOTE.true c.requires, rw length-replicate at c.put_slashes-to.ensures.ends)
 
-pub overflow_add-result-2 : goal.overflow_add-result-2
-overflow_add-result-2 c =
+pub overflow_add-result : goal.overflow_add-result
+overflow_add-result c =
     let a = c.args in
-    omega (arith, room a.batch a.at a.unit a.k c.if-unit-ne34.false c.requires, rw length-replicate at c.put_slashes-to.ensures.ends)
+    omega (arith, room a.batch a.at a.unit a.k c.if-unit-eq-QUOTE.true c.requires, rw length-replicate at c.put_slashes-to.ensures.ends)
 
-pub returns : goal.returns
+pub returns-then-unit-eq-QUOTE : goal.returns-then-unit-eq-QUOTE
 unfolding mark_for
-returns c =
-    rw (eq-eqb _ 34 c.if-unit-ne34.false, ← c.before_quote.ensures)
-    (both_placed c.put_slashes-to.ensures (two_placed _ 34 c.put_slashes-to.result c.put.ensures c.put-2.ensures))
+returns-then-unit-eq-QUOTE c =
+    rw (eq-eqb _ 34 c.if-unit-eq-QUOTE.true, ← c.before_quote.ensures)
+    (both_placed c.put_slashes-to.ensures (two_placed _ 34 c.put_slashes-to.result c.put.ensures c.put-then-unit-eq-QUOTE.ensures))

@@ -1,11 +1,6 @@
--- The invariant and the measure of `quoting::escapes::put_units`. Assumes nothing.
-use Prim.Native.Nat.{◌-◌}
-use lib.ListN.{length}
+-- The invariant of `quoting::escapes::put_units`. Assumes nothing.
 use Rattle.quoting.proofs.Midway.{Midway}
 use Rattle.quoting.proofs.escapes.put_units.Given as goal
 
-abbrev pub invariant-loop-i : goal.invariant-loop-i
-invariant-loop-i l = Midway l.batch l.initial.spot.k l.part l.initial.spot.to l.initial.out l.i l.spot.to l.spot.k l.out
-
-abbrev pub decreases-loop-i : goal.decreases-loop-i
-decreases-loop-i l = length l.part - l.i
+abbrev pub invariant-loop-unit : goal.invariant-loop-unit
+invariant-loop-unit l = Midway l.batch l.initial.spot.k l.part l.initial.spot.to l.initial.out l.unit-index l.spot.to l.spot.k l.out

@@ -1,8 +1,9 @@
 -- `quoting::marks::is_mark` meets its contract. Assumes nothing.
-use lib.Dec.{eqb}
-use Rattle.laws.specs.Any.{or_either}
-use Rattle.quoting.specs.Emitted.{other_mark}
+use borrow.Author.Tests.{eq-eqb, ne_eqb}
 use Rattle.quoting.proofs.marks.is_mark.Goals as goal
 
-pub returns : goal.returns
-returns c = let a = c.args in rw c.other_mark.ensures (or_either (eqb a.unit 34) (eqb a.unit (other_mark a.batch)))
+pub returns-then-unit-eq-QUOTE : goal.returns-then-unit-eq-QUOTE
+returns-then-unit-eq-QUOTE c = rw (eq-eqb _ 34 c.if-unit-eq-QUOTE.true)
+
+pub returns-else-unit-eq-QUOTE : goal.returns-else-unit-eq-QUOTE
+returns-else-unit-eq-QUOTE c = rw (ne_eqb _ 34 c.if-unit-eq-QUOTE.false, c.other_mark.ensures)

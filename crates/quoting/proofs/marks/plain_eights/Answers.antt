@@ -13,5 +13,5 @@ loop-n-preserved c = eight_more _ _ _ c.loop-n.invariant (search rules) (sym c.e
 pub returns-else-eight_plain : goal.returns-else-eight_plain
 returns-else-eight_plain c = c.loop-n.invariant
 
-pub returns : goal.returns
-returns c = c.loop-n.invariant
+pub returns-after-loop-n : goal.returns-after-loop-n
+returns-after-loop-n c = c.loop-n.invariant
