@@ -1,51 +1,49 @@
 -- The units of a dump, taken one after another. Assumes nothing.
-use Prim.Native.Nat.{ℕ, suc, ◌+◌, ◌*◌, ◌≤◌, ◌<◌}
-use native.Mathlib.Numerals.{add-one}
-use native.Mathlib.Omega.{arith}
-use mathlib.Core.Path.{◌≡◌, refl}
-use mathlib.Core.List.{List, [], ◌∷◌}
-use lib.ListN.{length, get_or, drop, set, length-set, length-drop}
-use lib.Seq.{sets, drop-cons}
+use Rattle.std.proofs.Common.{ℕ, ◌+◌, ◌*◌, ◌-◌, ◌≤◌, ◌<◌, ◌≡◌, refl, arith, List, [], ◌∷◌, length, get_or, take, drop, set}
+use Rattle.std.proofs.lemmas.List.Edits.{sets}
+use Rattle.laws.specs.Store.{part_is}
+use Rattle.laws.specs.Placed.{Left, less_left, unit_placed}
 use Rattle.dumps.specs.Dumped.{dumped}
 
 -- where fewer than two bytes are left, no unit is
-none_left : (xs : List ℕ) → length xs ≤ 1 → dumped xs ≡ []
+none_dumped : (xs : List ℕ) → length xs < 2 → dumped xs ≡ []
 unfolding dumped
-none_left [] h = refl
-none_left (x ∷ []) h = refl
-none_left (x ∷ y ∷ xs) h = absurd (omega arith)
+none_dumped [] h = refl
+none_dumped (x ∷ []) h = refl
+none_dumped (x ∷ y ∷ xs) h = absurd (omega arith)
 
--- the unit of the next two bytes, and then the others
-next : (xs : List ℕ) (at : ℕ) → at + 1 < length xs → dumped (drop at xs) ≡ (get_or xs at 0 + 256 * get_or xs (at + 1) 0) ∷ dumped (drop (at + 2) xs)
+-- the unit of the first two bytes, and then the others
+next_dumped : (xs : List ℕ) → 2 ≤ length xs → dumped xs ≡ (get_or xs 0 0 + 256 * get_or xs 1 0) ∷ dumped (take (length xs - 2) (drop 2 xs))
 unfolding dumped
-next xs at h =
-    let e : at + 2 ≡ suc (suc at) = omega arith in
-    rw (add-one at, e, drop-cons xs at 0 (omega arith), drop-cons xs (suc at) 0 (omega arith))
+next_dumped [] h = absurd (omega arith)
+next_dumped (x ∷ []) h = absurd (omega arith)
+next_dumped (x ∷ y ∷ xs) h = rw part_is refl
 
--- so many bytes are taken, and what is left stores the rest of the units
-pub record Midway (bytes out₀ out : List ℕ) (at to : ℕ) : Type 0 where
-  pub within : at ≤ length bytes
-  pub behind : to ≤ at
-  pub lengths : length out ≡ length out₀
-  pub stores : sets out to (dumped (drop at bytes)) ≡ sets out₀ 0 (dumped bytes)
-  pub counts : to + length (dumped (drop at bytes)) ≡ length (dumped bytes)
+-- there are no more units than bytes
+few_dumped : (xs : List ℕ) → length (dumped xs) ≤ length xs
+unfolding dumped
+few_dumped [] = omega arith
+few_dumped (x ∷ []) = omega arith
+few_dumped (x ∷ y ∷ xs) = omega (arith, few_dumped xs)
 
-module _ {bytes out₀ out : List ℕ} {at to : ℕ} (m : Midway bytes out₀ out at to) where
-  -- one unit more
-  pub turn : at + 1 < length bytes → (unit : ℕ) (out' : List ℕ) → unit ≡ get_or bytes at 0 + 256 * get_or bytes (at + 1) 0 → out' ≡ set out to unit
-      → Midway bytes out₀ out' (at + 2) (to + 1)
-  turn h unit out' u e =
-      let n = next bytes at h in
-      record {
-        within = omega arith;
-        behind = omega (arith, m.behind);
-        lengths = rw (e, length-set) m.lengths;
-        stores = rw (e, u, add-one to) (rw n at m.stores);
-        counts = omega (arith, rw n at m.counts);
-      }
+-- so many units stand, and those of the bytes that are left are still to be placed
+pub record Midway (bytes before out rest : List ℕ) (to : ℕ) : Type 0 where
+  pub still : Left (dumped bytes) 0 before (dumped rest) to out
 
-  -- no unit is left
-  pub ended : length bytes ≤ at + 1 → (to ≡ length (dumped bytes)) × (out ≡ sets out₀ 0 (dumped bytes))
-  ended h =
-      let n = none_left (drop at bytes) (rw length-drop (omega arith)) in
-      (omega (arith, rw n at m.counts), rw n at m.stores)
+module _ {bytes before : List ℕ} where
+  pub started : Midway bytes before before bytes 0
+  started = record { still = record { counts = refl; stores = refl } }
+
+  module _ {out rest : List ℕ} {to : ℕ} (m : Midway bytes before out rest to) where
+    -- no more units stand than there are bytes
+    pub few : to ≤ length bytes
+    few = omega (arith, m.still.counts, few_dumped bytes)
+
+    -- one unit more
+    pub turn : {unit : ℕ} {out' : List ℕ} → 2 ≤ length rest → unit ≡ get_or rest 0 0 + 256 * get_or rest 1 0 → out' ≡ set out to unit
+        → Midway bytes before out' (take (length rest - 2) (drop 2 rest)) (to + 1)
+    turn h u e = record { still = less_left (rw (next_dumped rest h) at m.still) (unit_placed _ to (rw u at e)) }
+
+    -- no unit is left
+    pub ended : length rest < 2 → (to ≡ length (dumped bytes)) × (out ≡ sets before 0 (dumped bytes))
+    ended h = let s = rw (none_dumped rest h) at m.still in (omega (arith, s.counts), s.stores)

@@ -1,22 +1,61 @@
-// The numbers of what goes wrong with a dump: those of Linux that are told by name, and one of our own.
+// Why a dump cannot be read.
+use std::{fmt, io};
 
-// No such file.
-pub const ENOENT: i32 = 2;
+// The numbers of Linux that are told by name.
+const ENOENT: i32 = 2;
 
-// It may not be read.
-pub const EACCES: i32 = 13;
+const EACCES: i32 = 13;
 
-// A part of its path is no directory.
-pub const ENOTDIR: i32 = 20;
+const ENOTDIR: i32 = 20;
 
-// It is a directory.
-pub const EISDIR: i32 = 21;
+const EISDIR: i32 = 21;
 
-// No path, or none that the system takes.
-pub const EINVAL: i32 = 22;
+const EINVAL: i32 = 22;
 
-// Its name is too long.
-pub const ENAMETOOLONG: i32 = 36;
+const ENAMETOOLONG: i32 = 36;
 
-// Its name is no UTF-8: std opens no such file. No number of the system's is below 0.
-pub const NO_UTF8: i32 = -1;
+// What goes wrong with a dump. Any other error of the system's goes by its number.
+#[derive(Clone, Copy, Debug, PartialEq, Eq)]
+pub enum Cause {
+    NotFound,
+    PermissionDenied,
+    NotADirectory,
+    IsADirectory,
+    NameTooLong,
+    NameNotUtf8,
+    System(i32),
+}
+
+impl Cause {
+    // No path, or none that the system takes.
+    pub const INVALID: Cause = Cause::System(EINVAL);
+}
+
+impl From<io::Error> for Cause {
+    // An error of std's own is about a path that the system would not take.
+    fn from(error: io::Error) -> Cause {
+        match error.raw_os_error() {
+            None => Cause::INVALID,
+            Some(ENOENT) => Cause::NotFound,
+            Some(EACCES) => Cause::PermissionDenied,
+            Some(ENOTDIR) => Cause::NotADirectory,
+            Some(EISDIR) => Cause::IsADirectory,
+            Some(ENAMETOOLONG) => Cause::NameTooLong,
+            Some(number) => Cause::System(number),
+        }
+    }
+}
+
+impl fmt::Display for Cause {
+    fn fmt<W: fmt::Write>(&self, f: &mut fmt::Formatter<W>) -> fmt::Result {
+        match self {
+            Cause::NotFound => write!(f, "no such file"),
+            Cause::PermissionDenied => write!(f, "permission denied"),
+            Cause::NotADirectory => write!(f, "a part of its path is no directory"),
+            Cause::IsADirectory => write!(f, "it is a directory"),
+            Cause::NameTooLong => write!(f, "its name is too long"),
+            Cause::NameNotUtf8 => write!(f, "its name is no UTF-8"),
+            Cause::System(number) => write!(f, "the system's error {}", number.unsigned_abs()),
+        }
+    }
+}

@@ -1,7 +1,5 @@
 -- The invariant and the measure of `dumps::read_all`. Assumes nothing.
-use Prim.Native.Nat.{◌-◌, ◌≤◌}
-use mathlib.Core.Path.{◌≡◌}
-use lib.ListN.{length}
+use Rattle.std.proofs.Common.{◌≡◌, ◌-◌, ◌≤◌, length}
 use Rattle.dumps.proofs.read_all.Given as goal
 
 abbrev pub invariant-loop-done : goal.invariant-loop-done
