@@ -3,33 +3,35 @@
 
 use blocks::{BLOCK_LIMIT, make_envp};
 use console::messages::{block_refused, status_refused};
-use console::reports::say;
 use console::room;
-use gathering::{gather, take_word};
+use gathering::{Kind, gather, take_word};
 use names::has_bat_extension;
 use results::back::say_read;
 use results::written::{say_code, say_suffix, say_written};
 use std::io::Result;
 use std::rt::Env;
-use terminal::numbers::{Number, number_of, signed_of};
+use terminal::numbers::number_of;
 use terminal::words::arg_count;
+
+// The tool's own name, as units.
+const NAME: [u16; 5] = [
+    b'l' as u16,
+    b'i' as u16,
+    b'n' as u16,
+    b'e' as u16,
+    b's' as u16,
+];
 
 // `read`: the arguments of a line. An empty line is read as the name of the executable, here the tool's own.
 pub fn read(rt: &(impl Env + Print)) -> Result<()> {
     if arg_count(rt) != 3 {
-        return say(
-            rt,
-            b"error: read takes one word, the line: put it in quotes\n",
-        );
+        return println!(rt; "error: read takes one word, the line: put it in quotes");
     }
     let mut text = room::text();
-    let took = take_word(rt, 2, &mut text, 0)?;
-    let units = took.units;
-    if took.fine {
-        let name = [108u16, 105, 110, 101, 115];
-        say_read(rt, &text[..units], &name)?;
+    match take_word(rt, 2, &mut text, 0)? {
+        Some(units) => say_read(rt, &text[..units], &NAME),
+        None => Ok(()),
     }
-    Ok(())
 }
 
 // The block of the entries that records name in a text.
@@ -37,7 +39,7 @@ fn env_block(rt: &impl Print, text: &[u16], records: &[u32]) -> Result<()> {
     let mut out = room::out();
     match make_envp(records, text, &mut out) {
         Ok(units) => {
-            say_written(rt, b"block", units, &out)?;
+            say_written(rt, "block", units, &out)?;
             Ok(())
         }
         Err(refusal) => block_refused(rt, refusal, BLOCK_LIMIT),
@@ -48,12 +50,10 @@ fn env_block(rt: &impl Print, text: &[u16], records: &[u32]) -> Result<()> {
 pub fn env(rt: &(impl Env + Print)) -> Result<()> {
     let mut text = room::text();
     let mut table = room::table();
-    let gathered = gather(rt, true, 2, 0, &mut text, &mut table)?;
-    let numbers = gathered.numbers;
-    if gathered.fine {
-        env_block(rt, &text, &table[..numbers])?;
+    match gather(rt, Kind::Entry, 2, 0, &mut text, &mut table)? {
+        Some(spot) => env_block(rt, &text, &table[..spot.numbers]),
+        None => Ok(()),
     }
-    Ok(())
 }
 
 // The text of a status.
@@ -61,7 +61,7 @@ fn say_status_text(rt: &impl Print, number: u32) -> Result<()> {
     let mut out = [0u16; 32];
     match status::status_text(number, &mut out) {
         Ok(units) => {
-            say_written(rt, b"text", units, &out)?;
+            say_written(rt, "text", units, &out)?;
             Ok(())
         }
         Err(refusal) => status_refused(rt, refusal),
@@ -71,32 +71,27 @@ fn say_status_text(rt: &impl Print, number: u32) -> Result<()> {
 // `status`: the text and the signed code of a number.
 pub fn status(rt: &(impl Env + Print)) -> Result<()> {
     if arg_count(rt) != 3 {
-        return say(rt, b"error: status takes one word, a number\n");
+        return println!(rt; "error: status takes one word, a number");
     }
     let mut word = room::word();
     let n = rt.arg(2, &mut word).unwrap_or(0);
     match number_of(&word[..n]) {
-        Number::Is(number) => {
+        Some(number) => {
             say_status_text(rt, number)?;
-            say_code(rt, signed_of(status::code(number)))
+            say_code(rt, status::code(number))
         }
-        Number::Not => say(
-            rt,
-            b"error: a status is a decimal number from 0 to 4294967295\n",
-        ),
+        None => println!(rt; "error: a status is a decimal number from 0 to 4294967295"),
     }
 }
 
 // `suffix`: whether a path has the suffix of a batch script.
 pub fn suffix(rt: &(impl Env + Print)) -> Result<()> {
     if arg_count(rt) != 3 {
-        return say(rt, b"error: suffix takes one word, a path\n");
+        return println!(rt; "error: suffix takes one word, a path");
     }
     let mut text = room::text();
-    let took = take_word(rt, 2, &mut text, 0)?;
-    let units = took.units;
-    if !took.fine {
-        return Ok(());
+    match take_word(rt, 2, &mut text, 0)? {
+        Some(units) => say_suffix(rt, has_bat_extension(&text[..units])),
+        None => Ok(()),
     }
-    say_suffix(rt, has_bat_extension(&text[..units]))
 }

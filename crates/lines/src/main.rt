@@ -3,7 +3,6 @@
 
 mod writing;
 
-use console::reports::say;
 use console::{reports, room};
 use std::env::{Env, FillError};
 use std::io::Result;
@@ -29,7 +28,7 @@ fn main(rt: HostRuntime) -> Result<()> {
         Command::Suffix => calls::suffix(&rt),
         Command::Help => reports::help(&rt),
         Command::Unknown => {
-            say(&rt, b"error: the first word is no command\n\n")?;
+            println!(&rt; "error: the first word is no command\n")?;
             reports::help(&rt)
         }
     }

@@ -1,124 +1,102 @@
 // Arguments as they are read from a line, and whether they are those that were given.
 use comparing::same_units;
 use console::messages::line_unread;
-use console::reports::{say, say_argument, say_number};
+use console::reports::say_argument;
 use console::room;
 use reading::{READ_LIMIT, argument, parse_lp_cmd_line};
 use rules::Arguments;
 use scans::has_quote;
 use std::io::Result;
 
+// What was given: a program, and the records of its arguments in a text.
+#[derive(Clone, Copy)]
+pub struct Given<'a> {
+    pub program: &'a [u16],
+    pub records: &'a [u32],
+    pub text: &'a [u16],
+}
+
+// What is read: so many arguments, their texts and their spans.
+#[derive(Clone, Copy)]
+struct Back<'a> {
+    text: &'a [u16],
+    spans: &'a [u32],
+    count: usize,
+}
+
+// The argument of an index: argument 0 is the program, each other the part of the text that its record names behind its kind.
+fn given_argument<'a>(given: &Given<'a>, index: usize) -> Option<&'a [u16]> {
+    if index == 0 {
+        return Some(given.program);
+    }
+    match given.records.chunks_exact(3).nth(index - 1) {
+        Some([_, span @ ..]) => Some(argument(given.text, span, 0)),
+        _ => None,
+    }
+}
+
+// Whether the argument read at an index is the one given.
+fn is_given(back: &Back, given: &Given, index: usize) -> bool {
+    match given_argument(given, index) {
+        Some(units) => same_units(argument(back.text, back.spans, index), units),
+        None => false,
+    }
+}
+
 // Each argument on a line of its own.
-fn say_arguments(rt: &impl Print, back: &[u16], spans: &[u32], count: usize) -> Result<()> {
-    let mut i = 0;
-    while i < count {
-        say_argument(rt, i, argument(back, spans, i))?;
-        i += 1;
+fn say_arguments(rt: &impl Print, back: &Back) -> Result<()> {
+    for index in 0..back.count {
+        say_argument(rt, index, argument(back.text, back.spans, index))?;
     }
     Ok(())
 }
 
-// Whether an argument is the one given: argument 0 the program, each other the part of the text that its record names.
-fn is_given(
-    i: usize,
-    program: &[u16],
-    table: &[u32],
-    text: &[u16],
-    back: &[u16],
-    spans: &[u32],
-) -> bool {
-    let read = argument(back, spans, i);
-    if i == 0 {
-        return same_units(read, program);
-    }
-    if table.len() < i {
-        return false;
-    }
-    let at = i * 3 - 2;
-    if table.len() < at {
-        return false;
-    }
-    same_units(read, argument(text, &table[at..], 0))
-}
-
-// The first argument that is not the one given, or the count where each is.
-fn first_other(
-    count: usize,
-    program: &[u16],
-    table: &[u32],
-    text: &[u16],
-    back: &[u16],
-    spans: &[u32],
-) -> usize {
-    let mut i = 0;
-    while i < count {
-        if !is_given(i, program, table, text, back, spans) {
-            return i;
-        }
-        i += 1;
-    }
-    i
-}
-
-// The arguments of a line, where an empty line is read as the name given.
-pub fn say_read(rt: &impl Print, line: &[u16], name: &[u16]) -> Result<()> {
-    let mut back = room::back();
-    let mut spans = room::spans();
-    match parse_lp_cmd_line(line, name, &mut back, &mut spans) {
-        Ok(Arguments { count, units: _ }) => say_arguments(rt, &back, &spans, count),
-        Err(refusal) => line_unread(rt, refusal, READ_LIMIT),
+// Whether the arguments read are those given.
+fn say_verdict(rt: &impl Print, back: &Back, given: &Given) -> Result<()> {
+    match (0..back.count).find(|index| !is_given(back, given, *index)) {
+        Some(other) => println!(rt; "argument {other} is not the one given"),
+        None if back.count == given.records.len() / 3 + 1 => println!(rt; "each is the one given"),
+        None => println!(rt; "there are not as many as were given"),
     }
 }
 
 // The arguments read, and whether they are those given.
-fn compare(
-    rt: &impl Print,
-    count: usize,
-    program: &[u16],
-    table: &[u32],
-    text: &[u16],
-    back: &[u16],
-    spans: &[u32],
-) -> Result<()> {
-    say_arguments(rt, back, spans, count)?;
-    let other = first_other(count, program, table, text, back, spans);
-    say_verdict(rt, other, count, table.len() / 3 + 1)?;
-    if has_quote(program) {
-        say(
-            rt,
-            b"a quote in the program is written as it is, and whoever reads the line drops it\n",
-        )?;
+fn compare(rt: &impl Print, back: &Back, given: &Given) -> Result<()> {
+    say_arguments(rt, back)?;
+    say_verdict(rt, back, given)?;
+    if has_quote(given.program) {
+        println!(rt; "a quote in the program is written as it is, and whoever reads the line drops it")?;
     }
     Ok(())
 }
 
-// What is read from a line that was written, and whether it is what was given.
-pub fn read_back(
+// Reads a line, where an empty one is read as the name, and says what there is to say of its arguments, or why it was not read.
+fn say_back<F: FnOnce(&Back) -> Result<()>>(
     rt: &impl Print,
     line: &[u16],
-    program: &[u16],
-    table: &[u32],
-    text: &[u16],
-) -> Result<()> {
-    let mut back = room::back();
+    name: &[u16],
+    say: F,
+) -> Result<()>
+    requires { F.IsAlwaysCallable say }
+{
+    let mut text = room::back();
     let mut spans = room::spans();
-    match parse_lp_cmd_line(line, program, &mut back, &mut spans) {
-        Ok(Arguments { count, units: _ }) => compare(
-            rt, count, program, table, text, &back, &spans,
-        ),
+    match parse_lp_cmd_line(line, name, &mut text, &mut spans) {
+        Ok(Arguments { count, units: _ }) => say(&Back {
+            text: &text,
+            spans: &spans,
+            count,
+        }),
         Err(refusal) => line_unread(rt, refusal, READ_LIMIT),
     }
 }
 
-// Whether the arguments read are those given.
-fn say_verdict(rt: &impl Print, other: usize, count: usize, given: usize) -> Result<()> {
-    if other < count {
-        say(rt, b"argument ")?;
-        say_number(rt, other)?;
-        say(rt, b" is not the one given\n")
-    } else if count == given {
-        say(rt, b"each is the one given\n")
-    } else {
-        say(rt, b"there are not as many as were given\n")
-    }
+// The arguments of a line, where an empty line is read as the name given.
+pub fn say_read(rt: &impl Print, line: &[u16], name: &[u16]) -> Result<()> {
+    say_back(rt, line, name, |back| say_arguments(rt, back))
+}
+
+// What is read from a line that was written, and whether it is what was given.
+pub fn read_back(rt: &impl Print, line: &[u16], given: &Given) -> Result<()> {
+    say_back(rt, line, given.program, |back| compare(rt, back, given))
 }
