@@ -6,8 +6,8 @@ ghost use Rattle.fields.specs.declared.taking.Field.TheVariants as Field;
 use forms::numbers::number_of;
 use forms::texts::take_text;
 
-// One more than the largest number of 32 bits.
-pub const HALF: u64 = 1 << 32;
+// What the high half of a number of 64 bits stands for.
+pub(crate) const HIGH: u64 = 1 << 32;
 
 // How many units and how many numbers are held.
 #[derive(Clone, Copy, Debug, PartialEq, Eq)]
@@ -54,8 +54,8 @@ fn take_wide(word: &[u8], numbers: &mut [u32], h: Held) -> Option<Held>
     ensures { (text : List ℕ) → Grew (field_on Field.Wide (held_in h text numbers.old) word.now) (length word.now) h result text numbers.new }
 {
     let number = number_of(word, u64::MAX)?;
-    let low = (number % HALF) as u32;
-    let high = (number / HALF) as u32;
+    let low = (number % HIGH) as u32;
+    let high = (number / HIGH) as u32;
     Some(h.push(numbers, &[low, high], h.units))
 }
 

@@ -2,7 +2,7 @@
 ghost use Rattle.std.specs.Prelude.{◌≡◌, ◌+◌, ◌*◌, get_or, drop};
 ghost use Rattle.rules.specs.Record.{part};
 
-use crate::taking::HALF;
+use crate::taking::HIGH;
 use units::parts::part_of;
 
 // The number at a place.
@@ -17,7 +17,7 @@ pub fn wide_at(numbers: &[u32], at: usize) -> u64
     ensures { result ≡ get_or numbers.now (at + 1) 0 * 4294967296 + get_or numbers.now at 0 }
 {
     let rest = rest_from(numbers, at);
-    u64::from(number_at(rest, 1)) * HALF + u64::from(number_at(rest, 0))
+    u64::from(number_at(rest, 1)) * HIGH + u64::from(number_at(rest, 0))
 }
 
 // The text whose start stands at a place and whose length behind it.

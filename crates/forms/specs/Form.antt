@@ -20,7 +20,7 @@ unfolding is_plain braced
 shown_unit colons x = pick (is_plain colons x) (x ∷ []) (braced x)
 
 -- what each element comes to, one after another
-unfoldable pub each : (ℕ → List ℕ) → List ℕ → List ℕ
+unfoldable pub each : {A : Type 0} → (A → List ℕ) → List A → List ℕ
 each f [] = []
 each f (x ∷ xs) = f x ++ each f xs
 

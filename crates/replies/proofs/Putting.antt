@@ -1,5 +1,5 @@
 -- Bytes put one after another into a piece. Assumes nothing.
-use Prim.Native.Nat.{ℕ, suc, ◌+◌, ◌-◌, ◌≤◌, ◌<◌}
+use Prim.Native.Nat.{ℕ, ◌+◌, ◌-◌, ◌≤◌, ◌<◌}
 use native.Mathlib.Nat.{zero-add}
 use native.Mathlib.Numerals.{add-one}
 use native.Mathlib.Omega.{arith}
@@ -7,7 +7,7 @@ use mathlib.Core.Path.{◌≡◌, refl, sym, ap, ◌∙◌}
 use mathlib.Core.Bool.{Bool, true, false}
 use mathlib.Core.List.{List, [], ◌∷◌, ◌++◌}
 use lib.Dec.{leb, eqb, ltb}
-use lib.ListN.{length, get_or, take, drop, set, drop_of_length-le, length-drop, length-set}
+use lib.ListN.{length, get_or, take, drop, set, drop_of_length-le, length-set}
 use lib.Seq.{drop-cons, take_at}
 use borrow.Author.Tests.{leb-true, lt-ltb, le-ltb}
 use Rattle.rules.specs.Choice.{pick, both, either, flip}
@@ -85,21 +85,19 @@ module _ {whole : List ℕ} {p₀ p q : Place} {d₀ d e : List ℕ} where
   less_left {a} {b} s u = record { still = rw u.puts (sym (put_append (on_page p d) a b) ∙ s.still) }
 
   -- one element more
-  pub each_step : (f : ℕ → List ℕ) (xs : List ℕ) (i : ℕ) → Still whole (each f (drop i xs)) p₀ p d₀ d → i < length xs → Puts (f (get_or xs i 0)) p q d e
-      → Still whole (each f (drop (i + 1) xs)) p₀ q d₀ e
+  pub each_step : {A : Type 0} (f : A → List ℕ) (xs : List A) (i : ℕ) (x : A) → Still whole (each f (drop i xs)) p₀ p d₀ d → i < length xs → x ≡ get_or xs i x
+      → Puts (f x) p q d e → Still whole (each f (drop (i + 1) xs)) p₀ q d₀ e
   unfolding each
-  each_step f xs i s h u = rw (add-one i) (less_left (rw (drop-cons xs i 0 h) at s) u)
+  each_step f xs i x s h n u = rw (add-one i) (less_left (rw (drop-cons xs i x h, ← n) at s) u)
 
   -- one text more
-  pub texts_step : (m : Manner) (out spans : List ℕ) (i : ℕ) → Still whole (texts_bytes m (texts_in out (drop i spans))) p₀ p d₀ d → i + 1 < length spans
-      → Puts (separator_of m ∷ shown (colons_of m) (part out (get_or spans i 0) (get_or spans (i + 1) 0))) p q d e
-      → Still whole (texts_bytes (after_of m) (texts_in out (drop (i + 2) spans))) p₀ q d₀ e
+  pub texts_step : (m : Manner) (out rest : List ℕ) → Still whole (texts_bytes m (texts_in out rest)) p₀ p d₀ d → 2 ≤ length rest
+      → Puts (separator_of m ∷ shown (colons_of m) (part out (get_or rest 0 0) (get_or rest 1 0))) p q d e
+      → Still whole (texts_bytes (after_of m) (texts_in out (drop 2 rest))) p₀ q d₀ e
   unfolding texts_bytes texts_in
-  texts_step m out spans i s h u =
-      let l : i < length spans = omega arith in
-      let k : suc i < length spans = omega arith in
-      let n : i + 2 ≡ suc (suc i) = omega arith in
-      rw n (less_left (rw (drop-cons spans i 0 l, drop-cons spans (suc i) 0 k, ← add-one i) at s) u)
+  texts_step m out [] s h u = absurd (omega arith)
+  texts_step m out (start ∷ []) s h u = absurd (omega arith)
+  texts_step m out (start ∷ size ∷ more) s h u = less_left s u
 
 -- a table of one number or none names no text
 few : (m : Manner) (out xs : List ℕ) → length xs ≤ 1 → texts_bytes m (texts_in out xs) ≡ []
@@ -114,13 +112,13 @@ module _ {whole : List ℕ} {p₀ p : Place} {d₀ d : List ℕ} where
   none_left s = record { puts = s.still }
 
   -- no element is left
-  pub each_done : (f : ℕ → List ℕ) (xs : List ℕ) (i : ℕ) → Still whole (each f (drop i xs)) p₀ p d₀ d → length xs ≤ i → Puts whole p₀ p d₀ d
+  pub each_done : {A : Type 0} (f : A → List ℕ) (xs : List A) (i : ℕ) → Still whole (each f (drop i xs)) p₀ p d₀ d → length xs ≤ i → Puts whole p₀ p d₀ d
   unfolding each
   each_done f xs i s h = none_left (rw (drop_of_length-le xs {i = i} h) at s)
 
   -- no text is left
-  pub texts_done : (m : Manner) (out spans : List ℕ) (i : ℕ) → Still whole (texts_bytes m (texts_in out (drop i spans))) p₀ p d₀ d → length spans ≤ i + 1 → Puts whole p₀ p d₀ d
-  texts_done m out spans i s h = none_left (rw (few m out (drop i spans) (rw length-drop (omega arith))) at s)
+  pub texts_done : (m : Manner) (out rest : List ℕ) → Still whole (texts_bytes m (texts_in out rest)) p₀ p d₀ d → length rest < 2 → Puts whole p₀ p d₀ d
+  texts_done m out rest s h = none_left (rw (few m out rest (omega arith)) at s)
 
 -- a run is each of its bytes
 pub run_is : (xs : List ℕ) → each (λ x. x ∷ []) xs ≡ xs

@@ -4,12 +4,12 @@ ghost use Rattle.forms.specs.Form.{each, shown};
 ghost use Rattle.replies.specs.Page.{Puts};
 ghost use Rattle.replies.specs.Show.{number_bytes, number_if, word_bytes, separator_of, colons_of, after_of, texts_in, texts_bytes, answer_bytes};
 
-use crate::places::{Place, put, put_run};
+use crate::places::{Place, put, put_each, put_run};
 use crate::shows::{put_number, put_text};
-use units::parts::{part_of, smaller};
+use units::parts::part_of;
 
 // The word that an answer begins with.
-#[derive(Clone, Copy)]
+#[derive(Clone, Copy, Debug, PartialEq, Eq)]
 pub enum Word {
     Bad,
     Ok,
@@ -21,7 +21,7 @@ pub enum Word {
 }
 
 // What a text is: one of its own, or the key or the value of an entry, in which a colon is `{3a}`.
-#[derive(Clone, Copy)]
+#[derive(Clone, Copy, Debug, PartialEq, Eq)]
 pub enum Manner {
     Text,
     Key,
@@ -29,7 +29,7 @@ pub enum Manner {
 }
 
 // An answer over lent units, a span table and a table of numbers.
-#[derive(Clone, Copy)]
+#[derive(Clone, Copy, Debug, PartialEq, Eq)]
 pub struct Answer {
     pub word: Word,
     // How many of the two numbers stand behind the word.
@@ -45,18 +45,51 @@ pub struct Answer {
     pub negative: bool,
 }
 
-// The word.
-fn put_word(piece: &mut [u8], p: Place, word: Word) -> Place
-    ensures { Puts (word_bytes word) p result piece.old piece.new }
-{
-    match word {
-        Word::Bad => put_run(piece, p, b"bad"),
-        Word::Ok => put_run(piece, p, b"ok"),
-        Word::Refused => put_run(piece, p, b"refused"),
-        Word::Hit => put_run(piece, p, b"hit"),
-        Word::Miss => put_run(piece, p, b"miss"),
-        Word::Stored => put_run(piece, p, b"stored"),
-        Word::Held => put_run(piece, p, b"held"),
+impl Word {
+    // Its bytes.
+    #[tactic(auto, unfolding(crate::specs::Show::word_bytes, rules::specs::Unit::units))]
+    fn bytes(self) -> &'static [u8]
+        ensures { result.now ≡ word_bytes self }
+    {
+        match self {
+            Word::Bad => b"bad",
+            Word::Ok => b"ok",
+            Word::Refused => b"refused",
+            Word::Hit => b"hit",
+            Word::Miss => b"miss",
+            Word::Stored => b"stored",
+            Word::Held => b"held",
+        }
+    }
+}
+
+impl Manner {
+    // What stands in front of a text.
+    fn separator(self) -> u8
+        ensures { result ≡ separator_of self }
+    {
+        match self {
+            Manner::Text | Manner::Key => b' ',
+            Manner::Value => b':',
+        }
+    }
+
+    // Whether a colon stands for itself.
+    fn colons(self) -> bool
+        ensures { result ≡ colons_of self }
+    {
+        matches!(self, Manner::Text)
+    }
+
+    // What the text behind it is.
+    fn after(self) -> Manner
+        ensures { result ≡ after_of self }
+    {
+        match self {
+            Manner::Text => Manner::Text,
+            Manner::Key => Manner::Value,
+            Manner::Value => Manner::Key,
+        }
     }
 }
 
@@ -65,41 +98,9 @@ fn put_if(piece: &mut [u8], p: Place, shown: bool, number: u64) -> Place
     ensures { Puts (number_if shown number) p result piece.old piece.new }
 {
     if shown {
-        return put_number(piece, p, false, number);
-    }
-    p
-}
-
-// What stands in front of a text.
-fn separator(manner: Manner) -> u8
-    ensures { result ≡ separator_of manner }
-{
-    match manner {
-        Manner::Text => 32,
-        Manner::Key => 32,
-        Manner::Value => 58,
-    }
-}
-
-// Whether a colon stands for itself.
-fn colons_in(manner: Manner) -> bool
-    ensures { result ≡ colons_of manner }
-{
-    match manner {
-        Manner::Text => true,
-        Manner::Key => false,
-        Manner::Value => false,
-    }
-}
-
-// What the text behind it is.
-fn after(manner: Manner) -> Manner
-    ensures { result ≡ after_of manner }
-{
-    match manner {
-        Manner::Text => Manner::Text,
-        Manner::Key => Manner::Value,
-        Manner::Value => Manner::Key,
+        put_number(piece, p, false, number)
+    } else {
+        p
     }
 }
 
@@ -107,8 +108,8 @@ fn after(manner: Manner) -> Manner
 fn put_one(piece: &mut [u8], p: Place, manner: Manner, text: &[u16]) -> Place
     ensures { Puts (separator_of manner ∷ shown (colons_of manner) text.now) p result piece.old piece.new }
 {
-    let next = put(piece, p, separator(manner));
-    put_text(piece, next, colons_in(manner), text)
+    let next = put(piece, p, manner.separator());
+    put_text(piece, next, manner.colons(), text)
 }
 
 // All texts that a span table names.
@@ -117,33 +118,26 @@ fn put_texts(piece: &mut [u8], p: Place, manner: Manner, out: &[u16], spans: &[u
 {
     let mut to = p;
     let mut m = manner;
-    let mut i = 0;
-    while i + 1 < spans.len() {
-        to = put_one(piece, to, m, part_of(out, spans[i], spans[i + 1]));
-        m = after(m);
-        i += 2;
+    let mut rest = spans;
+    while let [start, size, more @ ..] = rest {
+        to = put_one(piece, to, m, part_of(out, *start, *size));
+        m = m.after();
+        rest = more;
     }
     to
 }
 
-// A number of 32 bits.
-fn wide(number: u32) -> u64
-    ensures { result ≡ number }
-{
-    number as u64
-}
-
-// All numbers of a table, from one place up to another.
+// All numbers of a table from a place on.
 fn put_numbers(piece: &mut [u8], p: Place, negative: bool, numbers: &[u32], from: usize) -> Place
     ensures { Puts (each (number_bytes negative) (drop from numbers.now)) p result piece.old piece.new }
 {
-    let mut to = p;
-    let mut i = from;
-    while i < numbers.len() {
-        to = put_number(piece, to, negative, wide(numbers[i]));
-        i += 1;
-    }
-    to
+    let rest = numbers.get(from..).unwrap_or_default();
+    put_each(
+        piece,
+        p,
+        rest,
+        |piece, to, number| put_number(piece, to, negative, u64::from(number)),
+    )
 }
 
 // A whole answer with the line feed behind it.
@@ -157,14 +151,12 @@ pub fn put_answer(
 ) -> Place
     ensures { Puts (answer_bytes a out.now spans.now numbers.now) p result piece.old piece.new }
 {
-    let word = a.word;
-    let manner = a.manner;
-    let named = smaller(a.spans, spans.len());
-    let shown = smaller(a.to, numbers.len());
-    let said = put_word(piece, p, word);
+    let named = a.spans.min(spans.len());
+    let shown = a.to.min(numbers.len());
+    let said = put_run(piece, p, a.word.bytes());
     let one = put_if(piece, said, a.count > 0, a.first);
     let two = put_if(piece, one, a.count > 1, a.second);
-    let told = put_texts(piece, two, manner, out, &spans[..named]);
+    let told = put_texts(piece, two, a.manner, out, &spans[..named]);
     let end = put_numbers(piece, told, a.negative, &numbers[..shown], a.from);
-    put(piece, end, 10)
+    put(piece, end, b'\n')
 }

@@ -3,7 +3,7 @@ ghost use Rattle.forms.specs.Form.{each, shown_unit, shown};
 ghost use Rattle.replies.specs.Page.{Puts};
 ghost use Rattle.replies.specs.Show.{decimal, number_bytes};
 
-use crate::places::{Place, put, put_run};
+use crate::places::{Place, put, put_each, put_run};
 use forms::steps::is_plain;
 use octets::digits::{put_braced, put_digits};
 
@@ -20,11 +20,11 @@ fn put_decimal(piece: &mut [u8], p: Place, number: u64) -> Place
 pub fn put_number(piece: &mut [u8], p: Place, negative: bool, number: u64) -> Place
     ensures { Puts (number_bytes negative number) p result piece.old piece.new }
 {
-    if negative {
-        let next = put_run(piece, p, b" -");
-        return put_decimal(piece, next, number);
-    }
-    let next = put(piece, p, 32);
+    let next = if negative {
+        put_run(piece, p, b" -")
+    } else {
+        put(piece, p, b' ')
+    };
     put_decimal(piece, next, number)
 }
 
@@ -40,25 +40,17 @@ fn put_unit(piece: &mut [u8], p: Place, colons: bool, unit: u16) -> Place
     put_run(piece, p, &braces[..n])
 }
 
-// Units one after another.
-fn put_units(piece: &mut [u8], p: Place, colons: bool, units: &[u16]) -> Place
-    ensures { Puts (each (shown_unit colons) units.now) p result piece.old piece.new }
-{
-    let mut to = p;
-    let mut i = 0;
-    while i < units.len() {
-        to = put_unit(piece, to, colons, units[i]);
-        i += 1;
-    }
-    to
-}
-
 // A text.
 pub fn put_text(piece: &mut [u8], p: Place, colons: bool, text: &[u16]) -> Place
     ensures { Puts (shown colons text.now) p result piece.old piece.new }
 {
-    if text.len() == 0 {
+    if text.is_empty() {
         return put_run(piece, p, b"{}");
     }
-    put_units(piece, p, colons, text)
+    put_each(
+        piece,
+        p,
+        text,
+        |piece, to, unit| put_unit(piece, to, colons, unit),
+    )
 }
