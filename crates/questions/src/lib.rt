@@ -2,7 +2,7 @@
 #![tactic(auto)]
 
 use replies::answers::{Answer, Word};
-use sayings::brief;
+use sayings::said;
 use words::lines::{Line, take_line};
 
 // Each question's verb, and a letter for each word behind it (`words`, shapes); the last letter stands for all further words, and `.` for none.
@@ -23,21 +23,7 @@ const ROWS: [[u8; 20]; 14] = [
     *b"lent-entries tn     ",
 ];
 
-// The question of a row: those of the first set stand in front.
-fn ask_row(
-    row: usize,
-    text: &[u16],
-    numbers: &mut [u32],
-    out: &mut [u16],
-    spans: &mut [u32],
-) -> Answer {
-    if row < requests::COUNT {
-        return requests::ask(row, text, numbers, out, spans);
-    }
-    loans::ask(row - requests::COUNT, text, numbers, out, spans)
-}
-
-// Answers a question.
+// Answers a question. Those of the first set stand in front.
 pub fn ask(
     line: &[u8],
     text: &mut [u16],
@@ -45,12 +31,14 @@ pub fn ask(
     out: &mut [u16],
     spans: &mut [u32],
 ) -> Answer {
-    match take_line(&ROWS, line, text, numbers) {
-        Line::By(row, held) => {
-            let units = held.units;
-            let count = held.count;
-            ask_row(row, &text[..units], &mut numbers[..count], out, spans)
-        }
-        Line::Bad => brief(Word::Bad, 0, 0, 0, 0),
+    let Some(Line { row, held }) = take_line(&ROWS, line, text, numbers) else {
+        return said(Word::Bad);
+    };
+    let text = &text[..held.units];
+    let numbers = &mut numbers[..held.count];
+    if row < requests::COUNT {
+        requests::ask(row, text, numbers, out, spans)
+    } else {
+        loans::ask(row - requests::COUNT, text, numbers, out, spans)
     }
 }
