@@ -6,15 +6,12 @@ ghost use Rattle.rules.specs.Store.{flag_word};
 pub fn word_at(index: &[u64], at: usize) -> usize
     ensures { result ≡ get_or index.now at 0 }
 {
-    if at < index.len() {
-        return index[at] as usize;
-    }
-    0
+    index.get(at).map_or(0, |word| *word as usize)
 }
 
 // The force flag as a word.
 pub fn flag_word(force_quotes: bool) -> u64
     ensures { result ≡ flag_word force_quotes }
 {
-    if force_quotes { 1 } else { 0 }
+    u64::from(force_quotes)
 }

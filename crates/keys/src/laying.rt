@@ -15,13 +15,11 @@ pub fn key_size(program: &[u16], records: &[u32], text: &[u16], limit: usize) ->
     ensures { result ≡ min limit (length (program.now ++ code_of (arguments_of text.now records.now))) }
 {
     let n = records.len() / 3;
-    let mut size = parts::smaller(limit, program.len());
-    let mut i = 0;
-    while i < n {
+    let mut size = limit.min(program.len());
+    for i in 0..n {
         let arg = records::record_at(records, i);
         let content = parts::part_of(text, arg.start, arg.len);
-        size = parts::smaller(limit, size + 2 + content.len());
-        i += 1;
+        size = limit.min(size + 2 + content.len());
     }
     size
 }
@@ -51,12 +49,10 @@ fn put_arguments(out: &mut [u16], at: usize, records: &[u32], text: &[u16])
 {
     let n = records.len() / 3;
     let mut to = at;
-    let mut i = 0;
-    while i < n {
+    for i in 0..n {
         let arg = records::record_at(records, i);
         let content = parts::part_of(text, arg.start, arg.len);
         to = put_argument(out, to, arg.kind, content);
-        i += 1;
     }
 }
 

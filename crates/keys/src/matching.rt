@@ -7,13 +7,6 @@ ghost use Rattle.rules.specs.Store.{argument_code, code_of};
 use comparing::same_units;
 use units::parts;
 
-// A unit as a number.
-fn number(unit: u16) -> usize
-    ensures { result ≡ unit }
-{
-    unit as usize
-}
-
 // Whether the units from a place on begin with an argument: its kind, its length, its text.
 fn argument_at(key: &[u16], at: usize, kind: u32, content: &[u16]) -> bool
     requires { at ≤ length key.now }
@@ -22,10 +15,10 @@ fn argument_at(key: &[u16], at: usize, kind: u32, content: &[u16]) -> bool
     if key.len() - at < 2 + content.len() {
         return false;
     }
-    if number(key[at]) != kind as usize {
+    if usize::from(key[at]) != kind as usize {
         return false;
     }
-    if number(key[at + 1]) != content.len() {
+    if usize::from(key[at + 1]) != content.len() {
         return false;
     }
     let start = at + 2;
@@ -40,16 +33,13 @@ fn arguments_at(key: &[u16], at: usize, records: &[u32], text: &[u16]) -> bool
 {
     let n = records.len() / 3;
     let mut to = at;
-    let mut i = 0;
-    while i < n {
+    for i in 0..n {
         let arg = records::record_at(records, i);
         let content = parts::part_of(text, arg.start, arg.len);
-        if argument_at(key, to, arg.kind, content) {
-            to += 2 + content.len();
-            i += 1;
-        } else {
+        if !argument_at(key, to, arg.kind, content) {
             return false;
         }
+        to += 2 + content.len();
     }
     to == key.len()
 }
@@ -59,11 +49,8 @@ pub fn is_key(key: &[u16], program: &[u16], records: &[u32], text: &[u16]) -> bo
     ensures { result ≡ equal key.now (program.now ++ code_of (arguments_of text.now records.now)) }
 {
     let front = program.len();
-    if key.len() < front {
+    if key.len() < front || !same_units(&key[..front], program) {
         return false;
     }
-    if same_units(&key[..front], program) {
-        return arguments_at(key, front, records, text);
-    }
-    false
+    arguments_at(key, front, records, text)
 }

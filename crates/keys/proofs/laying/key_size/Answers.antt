@@ -9,14 +9,14 @@ use Rattle.keys.proofs.laying.key_size.Goals as goal
 pub loop-i-init : goal.loop-i-init
 loop-i-init c =
     let s = c.args in
-    (zero-le, omega (arith, c.smaller-size.ensures), omega (arith, c.smaller-size.ensures, key_from s.program.now s.text.now s.records.now))
+    (zero-le, omega (arith, c.min-size.ensures), omega (arith, c.min-size.ensures, key_from s.program.now s.text.now s.records.now))
 
 pub loop-i-preserved : goal.loop-i-preserved
 loop-i-preserved c =
     let s = c.args in
     let l = c.loop-i in
     let m = count_next s.text.now s.records.now l.i (search rules) c.record_at-arg.ensures c.part_of-content.ensures.names in
-    (search rules, omega (arith, c.smaller-size-in-loop-i.ensures), omega (arith, c.smaller-size-in-loop-i.ensures, m, l.invariant.2))
+    (search rules, omega (arith, c.min-size-in-loop-i.ensures), omega (arith, c.min-size-in-loop-i.ensures, m, l.invariant.2))
 
 pub returns : goal.returns
 unfolding code_of

@@ -1,5 +1,5 @@
 -- The invariant and the measure of `keys::laying::key_size`. Assumes nothing.
-use Prim.Native.Nat.{◌+◌, ◌-◌, ◌≤◌, min}
+use Prim.Native.Nat.{◌+◌, ◌≤◌, min}
 use lib.ListN.{length}
 use mathlib.Core.Path.{◌≡◌}
 use mathlib.Core.List.{◌++◌}
@@ -10,6 +10,3 @@ use Rattle.keys.proofs.laying.key_size.Given as goal
 
 abbrev pub invariant-loop-i : goal.invariant-loop-i
 invariant-loop-i l = (l.i ≤ l.n) × (l.size ≤ l.limit) × (min l.limit (l.size + length (code_of (arguments_from l.text l.records l.i))) ≡ min l.limit (length (l.program ++ code_of (arguments_of l.text l.records))))
-
-abbrev pub decreases-loop-i : goal.decreases-loop-i
-decreases-loop-i l = l.n - l.i

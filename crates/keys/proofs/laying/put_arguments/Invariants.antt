@@ -1,5 +1,5 @@
 -- The invariant and the measure of `keys::laying::put_arguments`. Assumes nothing.
-use Prim.Native.Nat.{◌-◌, ◌≤◌}
+use Prim.Native.Nat.{◌≤◌}
 use Rattle.laws.specs.Placed.{Left}
 use Rattle.keys.specs.Laid.{laid_arguments}
 use Rattle.keys.proofs.Walk.{arguments_from}
@@ -7,6 +7,3 @@ use Rattle.keys.proofs.laying.put_arguments.Given as goal
 
 abbrev pub invariant-loop-i : goal.invariant-loop-i
 invariant-loop-i l = (l.i ≤ l.n) × Left (laid_arguments (arguments_from l.text l.records 0)) l.at l.initial.out (laid_arguments (arguments_from l.text l.records l.i)) l.to l.out
-
-abbrev pub decreases-loop-i : goal.decreases-loop-i
-decreases-loop-i l = l.n - l.i

@@ -14,14 +14,14 @@ returns-then-key-at c =
     let a : Argument = record { kind = s.kind; content = s.content.now } in
     sym (no_argument s.key.now s.at a c.if-key-at.true)
 
-pub returns-then-number-kind : goal.returns-then-number-kind
-returns-then-number-kind c =
+pub returns-then-from-kind : goal.returns-then-from-kind
+returns-then-from-kind c =
     let s = c.args in
     let a : Argument = record { kind = s.kind; content = s.content.now } in
     kind_differs s.key.now s.at a (search rules) (λ e. omega arith)
 
-pub returns-then-number-content : goal.returns-then-number-content
-returns-then-number-content c =
+pub returns-then-from-content : goal.returns-then-from-content
+returns-then-from-content c =
     let s = c.args in
     let a : Argument = record { kind = s.kind; content = s.content.now } in
     length_differs s.key.now s.at a (search rules) (λ e. omega arith)

@@ -17,11 +17,11 @@ loop-i-init c =
 pub argument_at-requires : goal.argument_at-requires
 argument_at-requires c = c.loop-i.invariant.1
 
-pub overflow_add-to-then-argument_at : goal.overflow_add-to-then-argument_at
-overflow_add-to-then-argument_at c =
+pub overflow_add-to-in-loop-i : goal.overflow_add-to-in-loop-i
+overflow_add-to-in-loop-i c =
     let s = c.args in
     let a : Argument = record { kind = c.record_at-arg.result.kind; content = c.part_of-content.result.now } in
-    omega (arith, argument_within s.key.now c.loop-i.to a c.loop-i.invariant.1 (sym c.argument_at.ensures ∙ c.if-argument_at.true))
+    omega (arith, argument_within s.key.now c.loop-i.to a c.loop-i.invariant.1 (sym c.argument_at.ensures ∙ c.if-not-argument_at.false))
 
 pub loop-i-preserved : goal.loop-i-preserved
 loop-i-preserved c =
@@ -29,15 +29,15 @@ loop-i-preserved c =
     let l = c.loop-i in
     let a : Argument = record { kind = c.record_at-arg.result.kind; content = c.part_of-content.result.now } in (
       search rules,
-      argument_within s.key.now l.to a l.invariant.1 (sym c.argument_at.ensures ∙ c.if-argument_at.true),
-      l.invariant.2 ∙ compare_next s.text.now s.records.now l.i (search rules) c.record_at-arg.ensures c.part_of-content.ensures.names s.key.now l.to _ (sym c.if-argument_at.true ∙ c.argument_at.ensures),
+      argument_within s.key.now l.to a l.invariant.1 (sym c.argument_at.ensures ∙ c.if-not-argument_at.false),
+      l.invariant.2 ∙ compare_next s.text.now s.records.now l.i (search rules) c.record_at-arg.ensures c.part_of-content.ensures.names s.key.now l.to _ (sym c.if-not-argument_at.false ∙ c.argument_at.ensures),
     )
 
-pub returns-else-argument_at : goal.returns-else-argument_at
-returns-else-argument_at c =
+pub returns-then-not-argument_at : goal.returns-then-not-argument_at
+returns-then-not-argument_at c =
     let s = c.args in
     let l = c.loop-i in
-    sym (l.invariant.2 ∙ compare_next s.text.now s.records.now l.i (search rules) c.record_at-arg.ensures c.part_of-content.ensures.names s.key.now l.to _ (sym c.if-argument_at.false ∙ c.argument_at.ensures))
+    sym (l.invariant.2 ∙ compare_next s.text.now s.records.now l.i (search rules) c.record_at-arg.ensures c.part_of-content.ensures.names s.key.now l.to _ (sym c.if-not-argument_at.true ∙ c.argument_at.ensures))
 
 pub returns : goal.returns
 unfolding code_of

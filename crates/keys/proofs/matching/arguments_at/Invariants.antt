@@ -1,5 +1,5 @@
 -- The invariant and the measure of `keys::matching::arguments_at`. Assumes nothing.
-use Prim.Native.Nat.{◌-◌, ◌≤◌}
+use Prim.Native.Nat.{◌≤◌}
 use mathlib.Core.Path.{◌≡◌}
 use lib.ListN.{drop, length}
 use Rattle.rules.specs.Choice.{equal}
@@ -10,6 +10,3 @@ use Rattle.keys.proofs.matching.arguments_at.Given as goal
 
 abbrev pub invariant-loop-i : goal.invariant-loop-i
 invariant-loop-i l = (l.i ≤ l.n) × (l.to ≤ length l.key) × (equal (drop l.at l.key) (code_of (arguments_of l.text l.records)) ≡ equal (drop l.to l.key) (code_of (arguments_from l.text l.records l.i)))
-
-abbrev pub decreases-loop-i : goal.decreases-loop-i
-decreases-loop-i l = l.n - l.i
