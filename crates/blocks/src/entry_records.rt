@@ -14,10 +14,10 @@ pub struct EntryRecord {
     pub value_len: u32,
 }
 
-impl From<[u32; NUMBERS]> for EntryRecord {
-    ghost from_gives = { λ numbers r. ruled r ≡ numbered numbers };
+impl From<&[u32; NUMBERS]> for EntryRecord {
+    ghost from_gives = { λ numbers r. ruled r ≡ numbered numbers.now };
 
-    fn from([key_start, key_len, value_start, value_len]: [u32; NUMBERS]) -> EntryRecord {
+    fn from(&[key_start, key_len, value_start, value_len]: &[u32; NUMBERS]) -> EntryRecord {
         EntryRecord {
             key_start,
             key_len,

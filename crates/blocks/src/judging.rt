@@ -30,7 +30,7 @@ pub fn first_outside(records: &[u32], text: &[u16]) -> Option<usize>
     let (whole, cut) = records.as_chunks::<NUMBERS>();
     let found = whole
         .iter()
-        .position(|numbers| is_outside(text, EntryRecord::from(*numbers)));
+        .position(|numbers| is_outside(text, EntryRecord::from(numbers)));
     match found {
         Some(i) => Some(i + 1),
         None if cut.is_empty() => None,
@@ -54,6 +54,6 @@ pub fn first_with_nul(records: &[u32], text: &[u16]) -> Option<usize>
     let (whole, _) = records.as_chunks::<NUMBERS>();
     let found = whole
         .iter()
-        .position(|numbers| has_nul(text, EntryRecord::from(*numbers)));
+        .position(|numbers| has_nul(text, EntryRecord::from(numbers)));
     found.map(|i| i + 1)
 }

@@ -39,7 +39,7 @@ fn put_entries(out: &mut [u16], records: &[u32], text: &[u16]) -> usize
     let (whole, _) = records.as_chunks::<NUMBERS>();
     let mut to = 0;
     for numbers in whole {
-        to = put_entry(out, to, text, EntryRecord::from(*numbers));
+        to = put_entry(out, to, text, EntryRecord::from(numbers));
         if BLOCK_LIMIT < to {
             return to;
         }
