@@ -1,65 +1,67 @@
 // Bytes and units of small texts: what has no room is cut, and an example that is cut does not come out as stated.
 #![tactic(auto)]
 
-ghost use Rattle.std.specs.Prelude.{◌≤◌, length};
+ghost use Rattle.std.specs.Prelude.{◌≤◌};
 
-use octets::same;
 use std::io::Result;
 
-// Writes bytes to standard output.
-pub fn say(rt: &impl Print, bytes: &[u8]) -> Result<()> {
-    rt.write_all(bytes)
+// A small text in bytes.
+#[derive(Clone, Copy)]
+pub struct Page {
+    bytes: [u8; 128],
+    len: usize,
+    ghost within: { len ≤ 128 },
 }
 
 // A unit as a byte; a unit above 255 is a question mark.
 fn narrow(unit: u16) -> u8 {
-    if unit < 256 { (unit % 256) as u8 } else { 63 }
+    u8::try_from(unit).unwrap_or(b'?')
 }
 
-// A byte behind those of a page.
-pub fn put(page: &mut [u8], at: usize, byte: u8) -> usize
-    requires { at ≤ length page.old }
-    ensures { result ≤ length page.new }
-{
-    if at < page.len() {
-        page[at] = byte;
-        return at + 1;
+impl Page {
+    // An empty one.
+    pub fn new() -> Page {
+        Page {
+            bytes: [0; 128],
+            len: 0,
+        }
     }
-    at
+
+    // A byte behind those that there are.
+    pub fn put(&mut self, byte: u8) {
+        if self.len < self.bytes.len() {
+            self.bytes[self.len] = byte;
+            self.len += 1;
+        }
+    }
+
+    // Units behind the bytes that there are.
+    pub fn put_units(&mut self, units: &[u16]) {
+        for &unit in units {
+            self.put(narrow(unit));
+        }
+    }
+
+    // Its bytes.
+    pub fn bytes(&self) -> &[u8] {
+        &self.bytes[..self.len]
+    }
 }
 
-// Units behind the bytes of a page.
-pub fn put_units(page: &mut [u8], at: usize, units: &[u16]) -> usize
-    requires { at ≤ length page.old }
-    ensures { result ≤ length page.new }
-{
-    let mut to = at;
-    let mut i = 0;
-    while i < units.len() {
-        to = put(page, to, narrow(units[i]));
-        i += 1;
-    }
-    to
+// The page of so many units in front of an output, or none where the output has fewer.
+pub fn front(out: &[u16], units: usize) -> Option<Page> {
+    let mut page = Page::new();
+    page.put_units(out.get(..units)?);
+    Some(page)
 }
 
 // A verdict on an example, behind its name.
-pub fn verdict(rt: &impl Print, verb: &[u8], name: &[u8], holds: bool) -> Result<()> {
-    say(rt, verb)?;
-    say(rt, name)?;
-    if holds {
-        say(rt, b": equal\n")
-    } else {
-        say(rt, b": DIFFERS\n")
-    }
+pub fn verdict(rt: &impl Print, verb: &str, name: &str, holds: bool) -> Result<()> {
+    let outcome = if holds { "equal" } else { "DIFFERS" };
+    println!(rt; "{verb} {name}: {outcome}")
 }
 
-// The verdict where a page should hold these bytes.
-pub fn compare(
-    rt: &impl Print,
-    verb: &[u8],
-    name: &[u8],
-    page: &[u8],
-    stated: &[u8],
-) -> Result<()> {
-    verdict(rt, verb, name, same(page, stated))
+// The verdict where a page should hold this text.
+pub fn compare(rt: &impl Print, verb: &str, name: &str, page: &Page, stated: &str) -> Result<()> {
+    verdict(rt, verb, name, page.bytes() == stated.as_bytes())
 }
