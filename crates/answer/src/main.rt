@@ -1,62 +1,53 @@
 // Answers the questions of standard input, one a line, each by one line of standard output, in order.
 #![tactic(auto)]
 
-ghost use Rattle.std.specs.Prelude.{◌<◌, length};
-
-use dialogue::{begin, next_line, show};
+use dialogue::{Judge, Tables, converse};
 use questions::ask;
+use replies::answers::Answer;
 use std::io;
-use std::io::Read;
 
-// Answers line after line. A proved loop has to end, so it counts its turns down, from a number that no input uses up.
-fn answer_all<R: Read>(
-    rt: &impl Print,
-    input: &mut R,
-    chunk: &mut [u8],
-    line: &mut [u8],
-    text: &mut [u16],
-    numbers: &mut [u32],
-    out: &mut [u16],
-    spans: &mut [u32],
-    piece: &mut [u8],
-) -> io::Result<()>
-    requires { 0 < length piece.old }
-{
-    let mut t = begin();
-    let mut turns = u64::MAX;
-    while turns > 0 {
-        turns -= 1;
-        t = next_line(rt, input, t, chunk, line, piece)?;
-        if t.whole {
-            let size = t.size;
-            let a = ask(&line[..size], text, numbers, out, spans);
-            t = show(rt, t, a, out, spans, numbers, piece)?;
-        } else {
-            return Ok(());
+// How many units a question or an answer has at most, and how many numbers a question.
+const PLACES: usize = 400000;
+
+// How many spans an answer has at most: four numbers for each entry of the longest block, whose entries have three units at least, with their NUL.
+const SPANS: usize = 87376;
+
+// The judge: what it lends to a question, its units and numbers, and to its answer.
+#[derive(Drop)]
+struct Questions {
+    text: [u16; PLACES],
+    numbers: [u32; PLACES],
+    out: [u16; PLACES],
+    spans: [u32; SPANS],
+}
+
+impl Judge for Questions {
+    fn answer(&mut self, line: &[u8]) -> Answer {
+        ask(
+            line,
+            &mut self.text,
+            &mut self.numbers,
+            &mut self.out,
+            &mut self.spans,
+        )
+    }
+
+    fn tables(&self) -> Tables<'_> {
+        Tables {
+            out: &self.out,
+            spans: &self.spans,
+            numbers: &self.numbers,
         }
     }
-    Ok(())
 }
 
 // What is lent is made once.
 fn main(rt: HostRuntime) -> io::Result<()> {
-    let mut input = rt.stdin();
-    let mut chunk = rooms::piece();
-    let mut line = rooms::line();
-    let mut text = rooms::units();
-    let mut numbers = rooms::numbers();
-    let mut out = rooms::units();
-    let mut spans = rooms::spans();
-    let mut piece = rooms::piece();
-    answer_all(
-        &rt,
-        &mut input,
-        &mut chunk,
-        &mut line,
-        &mut text,
-        &mut numbers,
-        &mut out,
-        &mut spans,
-        &mut piece,
-    )
+    let mut judge = Questions {
+        text: [0; PLACES],
+        numbers: [0; PLACES],
+        out: [0; PLACES],
+        spans: [0; SPANS],
+    };
+    converse(&rt, &mut rt.stdin(), &mut judge)
 }

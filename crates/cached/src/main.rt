@@ -1,69 +1,63 @@
 // Answers the calls of standard input, one a line, each by one line of standard output, in order, over one store.
 #![tactic(auto)]
 
-ghost use Rattle.std.specs.Prelude.{◌<◌, length};
+ghost use Rattle.std.specs.Prelude.{◌≤◌, length};
+ghost use Rattle.services.specs.Call.{units_of};
 
 use cache::WORDS;
-use dialogue::{next_line, show};
+use dialogue::{Judge, Tables, converse};
+use replies::answers::Answer;
 use services::serve;
 use std::io;
-use std::io::Read;
 
-// Answers call after call. A proved loop has to end, so it counts its turns down, from a number that no input uses up.
-fn serve_all<R: Read>(
-    rt: &impl Print,
-    input: &mut R,
-    chunk: &mut [u8],
-    line: &mut [u8],
-    text: &mut [u16],
-    numbers: &mut [u32],
-    index: &mut [u64; WORDS],
-    units: &mut [u16],
-    spans: &mut [u32],
-    piece: &mut [u8],
-) -> io::Result<()>
-    requires { 0 < length piece.old }
-{
-    let mut t = dialogue::begin();
-    let mut state = services::begin();
-    let mut turns = u64::MAX;
-    while turns > 0 {
-        turns -= 1;
-        t = next_line(rt, input, t, chunk, line, piece)?;
-        if t.whole {
-            let size = t.size;
-            let s = serve(&line[..size], text, numbers, state, index, units, spans);
-            let a = s.answer;
-            state = s.state;
-            t = show(rt, t, a, units, spans, numbers, piece)?;
-        } else {
-            return Ok(());
-        }
-    }
-    Ok(())
+// How many units a call or the store has at most, and how many numbers a call.
+const PLACES: usize = 400000;
+
+// The judge: what it lends to a call, its units and numbers, and its store.
+#[derive(Drop)]
+struct Calls {
+    text: [u16; PLACES],
+    numbers: [u32; PLACES],
+    // The store, and over how many of its units it was made.
+    index: [u64; WORDS],
+    units: [u16; PLACES],
+    made: Option<usize>,
+    // The span of an answer: it has one text at most.
+    spans: [u32; 2],
+    ghost within: { units_of made ≤ length units },
 }
 
-// What is lent is made once. An answer has one text at most, so the table has one place.
+impl Judge for Calls {
+    fn answer(&mut self, line: &[u8]) -> Answer {
+        serve(
+            line,
+            &mut self.text,
+            &mut self.numbers,
+            &mut self.made,
+            &mut self.index,
+            &mut self.units,
+            &mut self.spans,
+        )
+    }
+
+    fn tables(&self) -> Tables<'_> {
+        Tables {
+            out: &self.units,
+            spans: &self.spans,
+            numbers: &self.numbers,
+        }
+    }
+}
+
+// What is lent is made once.
 fn main(rt: HostRuntime) -> io::Result<()> {
-    let mut input = rt.stdin();
-    let mut chunk = rooms::piece();
-    let mut line = rooms::line();
-    let mut text = rooms::units();
-    let mut numbers = rooms::numbers();
-    let mut index = [0; WORDS];
-    let mut units = rooms::units();
-    let mut spans = [0; 2];
-    let mut piece = rooms::piece();
-    serve_all(
-        &rt,
-        &mut input,
-        &mut chunk,
-        &mut line,
-        &mut text,
-        &mut numbers,
-        &mut index,
-        &mut units,
-        &mut spans,
-        &mut piece,
-    )
+    let mut judge = Calls {
+        text: [0; PLACES],
+        numbers: [0; PLACES],
+        index: [0; WORDS],
+        units: [0; PLACES],
+        made: None,
+        spans: [0; 2],
+    };
+    converse(&rt, &mut rt.stdin(), &mut judge)
 }

@@ -12,6 +12,12 @@ use std::io;
 use std::io::Read;
 use turns::{Turn, begin};
 
+// How many bytes a piece of the input or of the output has at most.
+const PIECE: usize = 65536;
+
+// How many bytes of a line are kept: one more than a question may have, so that one that is too long is seen to be.
+const LONGEST: usize = 400001;
+
 // What the texts and numbers of an answer are shown of.
 #[derive(Clone, Copy)]
 pub struct Tables<'a> {
@@ -136,16 +142,15 @@ fn show(
     })
 }
 
-// Has each line of the input answered, until the input ends. A line has one byte more than a question may have, so that one that is too long is seen to be.
-// A proved loop has to end, so it counts its turns, to a number that no input uses up.
+// Has each line of the input answered, until the input ends. A proved loop has to end, so it counts its turns, to a number that no input uses up.
 pub fn converse<R: Read, J: Judge>(
     rt: &impl Print,
     input: &mut R,
     judge: &mut J,
 ) -> io::Result<()> {
-    let mut chunk = [0; 65536];
-    let mut line = [0; 400001];
-    let mut piece = [0; 65536];
+    let mut chunk = [0; PIECE];
+    let mut line = [0; LONGEST];
+    let mut piece = [0; PIECE];
     let mut t = begin();
     for _ in 0..u64::MAX {
         let Some(asked) = next_line(rt, input, t, &mut chunk, &mut line, &piece)? else {

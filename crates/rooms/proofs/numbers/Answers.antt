@@ -1,8 +1,0 @@
--- `rooms::numbers` meets its contract. Assumes nothing.
-use Prim.Native.Nat.{ℕ}
-use mathlib.Core.Path.{sym}
-use lib.ListN.{length-replicate}
-use Rattle.rooms.proofs.numbers.Goals as goal
-
-pub returns : goal.returns
-returns c = sym (length-replicate {A = ℕ} 400000 0)
