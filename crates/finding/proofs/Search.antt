@@ -1,4 +1,5 @@
 -- Looking through the entries of a store, one after another. Assumes nothing.
+use Rattle.std.specs.Prelude.{Some}
 use Prim.Native.Nat.{ℕ, ◌+◌, ◌-◌, ◌*◌, ◌≤◌, ◌<◌, min}
 use native.Mathlib.Omega.{arith}
 use mathlib.Core.Path.{◌≡◌, refl, sym, ap, ◌∙◌}
@@ -35,7 +36,7 @@ module _ {index : List ℕ} (units : List ℕ) {at start : ℕ} (e : CacheEntry)
       (ap (both (eqb e.fingerprint fingerprint)) (same_units e.key (key_of lent)))
 
   -- its line stands where its words say, and nothing is clipped
-  line_stands : start + entry_uses e ≤ length units → found_said (line_at index at (length units)) ≡ there (start + key_size e.key) (length e.line)
+  line_stands : start + entry_uses e ≤ length units → found_said (Some (line_at index at (length units))) ≡ there (start + key_size e.key) (length e.line)
   unfolding entry_uses
   line_stands h =
       let room = length units in
@@ -78,7 +79,7 @@ module _ {places : ℕ} {index units : List ℕ} {es : List CacheEntry} (r : Rep
 
   -- the entry of the next index answers, or those behind it are left
   data Next (i : ℕ) : Type 0 where
-    here : told i ≡ true → found_said (line_at index (2 + 6 * i) (length units)) ≡ standing fingerprint key 0 es → Next i
+    here : told i ≡ true → found_said (Some (line_at index (2 + 6 * i) (length units))) ≡ standing fingerprint key 0 es → Next i
     on : told i ≡ false → Searched fingerprint key es (i + 1) → Next i
 
   next : (i : ℕ) → i < length es → Searched fingerprint key es i → Next i
@@ -113,10 +114,10 @@ module _ {places : ℕ} {index units : List ℕ} {es : List CacheEntry} (r : Rep
 
   -- it answers: its line is the one
   pub found_here : (i : ℕ) → i < length es → Searched fingerprint key es i → told i ≡ true
-      → found_said (line_at index (2 + 6 * i) (length units)) ≡ standing fingerprint key 0 es
+      → found_said (Some (line_at index (2 + 6 * i) (length units))) ≡ standing fingerprint key 0 es
   found_here i h s t = go (next i h s)
     where
-      go : Next i → found_said (line_at index (2 + 6 * i) (length units)) ≡ standing fingerprint key 0 es
+      go : Next i → found_said (Some (line_at index (2 + 6 * i) (length units))) ≡ standing fingerprint key 0 es
       go (here u f) = f
       go (on u f) = clash (told i) t u
 
@@ -135,5 +136,5 @@ pub all_counted : {places : ℕ} {index units : List ℕ} {es : List CacheEntry}
 all_counted r n e = omega (arith, e, count_is r, r.fits)
 
 -- whatever the words say, the line lies within the units
-pub clipped_lies : (index : List ℕ) (at room : ℕ) → Lies room (line_at index at room)
+pub clipped_lies : (index : List ℕ) (at room : ℕ) → Lies room (Some (line_at index at room))
 clipped_lies index at room = omega arith

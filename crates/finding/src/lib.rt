@@ -2,58 +2,48 @@
 #![tactic(auto)]
 
 ghost use Rattle.std.specs.Prelude.{◌≡◌, ◌+◌, ◌*◌, ◌≤◌, length};
-ghost use Rattle.rules.specs.Record.{arguments_of};
-ghost use Rattle.rules.specs.Key.{launch};
+ghost use Rattle.keys.specs.Lent.{launch_of, arguments_lent};
 ghost use Rattle.finding.specs.Found.{answers_at, line_at, FindsLine};
 
 use keys::index::{flag_word, word_at};
+use keys::lent::Lent;
 use keys::matching::is_key;
 use units::parts;
 
-// Where the line of an entry stands in the units of a store, or that none was found.
-#[derive(Clone, Copy)]
-pub enum Found {
-    There { start: usize, units: usize },
-    Nowhere,
+// Where the line of an entry stands in the units of a store.
+#[derive(Clone, Copy, Debug, PartialEq, Eq)]
+pub struct Place {
+    pub start: usize,
+    pub units: usize,
 }
 
 // Whether the entry whose words stand at a place of the index has that fingerprint and, only looked at then, that key.
-fn answers(
-    index: &[u64],
-    at: usize,
-    units: &[u16],
-    fingerprint: u64,
-    program: &[u16],
-    records: &[u32],
-    text: &[u16],
-    force_quotes: bool,
-) -> bool
+fn answers(index: &[u64], at: usize, units: &[u16], fingerprint: u64, lent: &Lent<'_>) -> bool
     requires { at + 6 ≤ length index.now }
-    ensures { result ≡ answers_at index.now at units.now fingerprint force_quotes program.now (arguments_of text.now records.now) }
+    ensures { result ≡ answers_at index.now at units.now fingerprint lent.now.force_quotes lent.now.program.now (arguments_lent lent.now) }
 {
     if index[at] != fingerprint {
         return false;
     }
-    if index[at + 1] != flag_word(force_quotes) {
+    if index[at + 1] != flag_word(lent.force_quotes) {
         return false;
     }
-    if word_at(index, at + 2) != program.len() {
+    if word_at(index, at + 2) != lent.program.len() {
         return false;
     }
     let key = parts::part_at(units, word_at(index, at + 3), word_at(index, at + 4));
-    is_key(key, program, records, text)
+    is_key(key, lent)
 }
 
 // Where its line stands: behind its key.
-fn line_at(index: &[u64], at: usize, room: usize) -> Found
+fn line_at(index: &[u64], at: usize, room: usize) -> Place
     requires { at + 6 ≤ length index.now }
     ensures { result ≡ line_at index.now at room }
 {
-    let start = parts::smaller(word_at(index, at + 3), room);
-    let key = parts::smaller(word_at(index, at + 4), room - start);
-    let line = start + key;
-    let units = parts::smaller(word_at(index, at + 5), room - line);
-    Found::There { start: line, units }
+    let key = word_at(index, at + 3).min(room);
+    let start = key + word_at(index, at + 4).min(room - key);
+    let units = word_at(index, at + 5).min(room - start);
+    Place { start, units }
 }
 
 // The line of the first entry with that fingerprint and that key, in a store of so many places.
@@ -62,31 +52,17 @@ pub fn find(
     index: &[u64],
     units: &[u16],
     fingerprint: u64,
-    program: &[u16],
-    records: &[u32],
-    text: &[u16],
-    force_quotes: bool,
-) -> Found
+    lent: &Lent<'_>,
+) -> Option<Place>
     requires { 2 + 6 * places ≤ length index.now }
-    ensures { FindsLine places index.now units.now fingerprint (launch force_quotes program.now records.now text.now) result }
+    ensures { FindsLine places index.now units.now fingerprint (launch_of lent.now) result }
 {
-    let n = parts::smaller(places, word_at(index, 0));
-    let mut i = 0;
-    while i < n {
+    let n = places.min(word_at(index, 0));
+    for i in 0..n {
         let at = 2 + 6 * i;
-        if answers(
-            index,
-            at,
-            units,
-            fingerprint,
-            program,
-            records,
-            text,
-            force_quotes,
-        ) {
-            return line_at(index, at, units.len());
+        if answers(index, at, units, fingerprint, lent) {
+            return Some(line_at(index, at, units.len()));
         }
-        i += 1;
     }
-    Found::Nowhere
+    None
 }

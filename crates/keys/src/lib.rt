@@ -3,4 +3,5 @@
 
 pub mod index;
 pub mod laying;
+pub mod lent;
 pub mod matching;

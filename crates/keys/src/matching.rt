@@ -1,9 +1,11 @@
 // A stored key compared with the key that is lent. Nothing is decoded: each part of the lent key is compared with the units that it would have there.
 ghost use Rattle.std.specs.Prelude.{◌≡◌, ◌++◌, ◌+◌, ◌≤◌, length, drop};
 ghost use Rattle.rules.specs.Choice.{equal};
-ghost use Rattle.rules.specs.Record.{part, arguments_of};
+ghost use Rattle.rules.specs.Record.{part};
 ghost use Rattle.rules.specs.Store.{argument_code, code_of};
+ghost use Rattle.keys.specs.Lent.{arguments_lent};
 
+use crate::lent::Lent;
 use comparing::same_units;
 use units::parts;
 
@@ -27,15 +29,15 @@ fn argument_at(key: &[u16], at: usize, kind: u32, content: &[u16]) -> bool
 }
 
 // Whether the units from a place on are the arguments that records name, and nothing more.
-fn arguments_at(key: &[u16], at: usize, records: &[u32], text: &[u16]) -> bool
+fn arguments_at(key: &[u16], at: usize, lent: &Lent<'_>) -> bool
     requires { at ≤ length key.now }
-    ensures { result ≡ equal (drop at key.now) (code_of (arguments_of text.now records.now)) }
+    ensures { result ≡ equal (drop at key.now) (code_of (arguments_lent lent.now)) }
 {
-    let n = records.len() / 3;
+    let n = lent.records.len() / 3;
     let mut to = at;
     for i in 0..n {
-        let arg = records::record_at(records, i);
-        let content = parts::part_of(text, arg.start, arg.len);
+        let arg = records::record_at(lent.records, i);
+        let content = parts::part_of(lent.text, arg.start, arg.len);
         if !argument_at(key, to, arg.kind, content) {
             return false;
         }
@@ -45,12 +47,12 @@ fn arguments_at(key: &[u16], at: usize, records: &[u32], text: &[u16]) -> bool
 }
 
 // Whether units are those of a program and of the arguments that records name.
-pub fn is_key(key: &[u16], program: &[u16], records: &[u32], text: &[u16]) -> bool
-    ensures { result ≡ equal key.now (program.now ++ code_of (arguments_of text.now records.now)) }
+pub fn is_key(key: &[u16], lent: &Lent<'_>) -> bool
+    ensures { result ≡ equal key.now (lent.now.program.now ++ code_of (arguments_lent lent.now)) }
 {
-    let front = program.len();
-    if key.len() < front || !same_units(&key[..front], program) {
+    let front = lent.program.len();
+    if key.len() < front || !same_units(&key[..front], lent.program) {
         return false;
     }
-    arguments_at(key, front, records, text)
+    arguments_at(key, front, lent)
 }

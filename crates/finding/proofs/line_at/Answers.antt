@@ -3,4 +3,4 @@ use Rattle.finding.proofs.line_at.Goals as goal
 
 pub returns : goal.returns
 returns c =
-    rw (c.smaller-units.ensures, c.smaller-key.ensures, c.smaller-start.ensures, c.word_at-3.ensures, c.word_at-2.ensures, c.word_at.ensures)
+    rw (c.min-units.ensures, c.min.ensures, c.min-key.ensures, c.word_at-3.ensures, c.word_at-2.ensures, c.word_at.ensures)

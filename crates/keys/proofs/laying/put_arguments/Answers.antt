@@ -15,13 +15,13 @@ pub put_argument-to-requires : goal.put_argument-to-requires
 put_argument-to-requires c =
     let s = c.args in
     let l = c.loop-i in
-    omega (arith, l.invariant.1.counts, same_left l.invariant.1, laid_count s.text.now s.records.now l.i (search rules) c.record_at-arg.ensures c.part_of-content.ensures.names, rw (all_from s.text.now s.records.now) at c.requires)
+    omega (arith, l.invariant.1.counts, same_left l.invariant.1, laid_count s.lent.now.text.now s.lent.now.records.now l.i (search rules) c.record_at-arg.ensures c.part_of-content.ensures.names, rw (all_from s.lent.now.text.now s.lent.now.records.now) at c.requires)
 
 pub loop-i-preserved : goal.loop-i-preserved
 loop-i-preserved c =
     let s = c.args in
     let l = c.loop-i in
-    (search rules, less_left (rw (laid_next s.text.now s.records.now l.i (search rules) c.record_at-arg.ensures c.part_of-content.ensures.names) at l.invariant.1) c.put_argument-to.ensures)
+    (search rules, less_left (rw (laid_next s.lent.now.text.now s.lent.now.records.now l.i (search rules) c.record_at-arg.ensures c.part_of-content.ensures.names) at l.invariant.1) c.put_argument-to.ensures)
 
 pub shape_of-out : goal.shape_of-out
 shape_of-out c = same_left c.loop-i.invariant.1
@@ -31,4 +31,4 @@ unfolding laid_arguments
 returns c =
     let s = c.args in
     let l = c.loop-i in
-    rw all_from (rw (none_from s.text.now s.records.now l.i (search rules)) at l.invariant.1.stores)
+    rw all_from (rw (none_from s.lent.now.text.now s.lent.now.records.now l.i (search rules)) at l.invariant.1.stores)

@@ -12,7 +12,7 @@ use Rattle.keys.proofs.matching.arguments_at.Goals as goal
 pub loop-i-init : goal.loop-i-init
 loop-i-init c =
     let s = c.args in
-    (zero-le, search rules, rw (all_from s.text.now s.records.now))
+    (zero-le, search rules, rw (all_from s.lent.now.text.now s.lent.now.records.now))
 
 pub argument_at-requires : goal.argument_at-requires
 argument_at-requires c = c.loop-i.invariant.1
@@ -30,18 +30,18 @@ loop-i-preserved c =
     let a : Argument = record { kind = c.record_at-arg.result.kind; content = c.part_of-content.result.now } in (
       search rules,
       argument_within s.key.now l.to a l.invariant.1 (sym c.argument_at.ensures ∙ c.if-not-argument_at.false),
-      l.invariant.2 ∙ compare_next s.text.now s.records.now l.i (search rules) c.record_at-arg.ensures c.part_of-content.ensures.names s.key.now l.to _ (sym c.if-not-argument_at.false ∙ c.argument_at.ensures),
+      l.invariant.2 ∙ compare_next s.lent.now.text.now s.lent.now.records.now l.i (search rules) c.record_at-arg.ensures c.part_of-content.ensures.names s.key.now l.to _ (sym c.if-not-argument_at.false ∙ c.argument_at.ensures),
     )
 
 pub returns-then-not-argument_at : goal.returns-then-not-argument_at
 returns-then-not-argument_at c =
     let s = c.args in
     let l = c.loop-i in
-    sym (l.invariant.2 ∙ compare_next s.text.now s.records.now l.i (search rules) c.record_at-arg.ensures c.part_of-content.ensures.names s.key.now l.to _ (sym c.if-not-argument_at.true ∙ c.argument_at.ensures))
+    sym (l.invariant.2 ∙ compare_next s.lent.now.text.now s.lent.now.records.now l.i (search rules) c.record_at-arg.ensures c.part_of-content.ensures.names s.key.now l.to _ (sym c.if-not-argument_at.true ∙ c.argument_at.ensures))
 
 pub returns : goal.returns
 unfolding code_of
 returns c =
     let s = c.args in
     let l = c.loop-i in
-    sym (l.invariant.2 ∙ rw (none_from s.text.now s.records.now l.i (search rules)) (equal_end s.key.now l.to l.invariant.1))
+    sym (l.invariant.2 ∙ rw (none_from s.lent.now.text.now s.lent.now.records.now l.i (search rules)) (equal_end s.key.now l.to l.invariant.1))

@@ -9,4 +9,4 @@ use Rattle.keys.proofs.Walk.{arguments_from}
 use Rattle.keys.proofs.matching.arguments_at.Given as goal
 
 abbrev pub invariant-loop-i : goal.invariant-loop-i
-invariant-loop-i l = (l.i ≤ l.n) × (l.to ≤ length l.key) × (equal (drop l.at l.key) (code_of (arguments_of l.text l.records)) ≡ equal (drop l.to l.key) (code_of (arguments_from l.text l.records l.i)))
+invariant-loop-i l = (l.i ≤ l.n) × (l.to ≤ length l.key) × (equal (drop l.at l.key) (code_of (arguments_of l.lent.text.now l.lent.records.now)) ≡ equal (drop l.to l.key) (code_of (arguments_from l.lent.text.now l.lent.records.now l.i)))
