@@ -1,8 +1,13 @@
 -- The units that end a run of the reader, and the length of the run. Assumes nothing.
-use mathlib.Core.Path.{◌≡◌, refl, ◌∙◌}
+use mathlib.Core.Path.{◌≡◌, refl, sym}
 use mathlib.Core.Bool.{Bool, true, false}
 use mathlib.Core.List.{List}
-use Prim.Native.Nat.{ℕ}
+use Prim.Native.Nat.{ℕ, ◌≤◌, ◌<◌}
+use native.Mathlib.Omega.{arith}
+use lib.ListN.{length, get_or}
+use Rattle.std.proofs.lemmas.Bool.Decides.{nat_tests}
+use Rattle.laws.specs.Run.{starts_at, starts_none, starts_with}
+use Rattle.rules.specs.Unit.{is_quote}
 use lib.Dec.{eqb}
 use Rattle.rules.specs.Choice.{pick, flip}
 use Rattle.laws.specs.Scan.{is_one_of, before, leading, leading_same}
@@ -29,9 +34,17 @@ plain_is q x = go q (eqb x 34) (eqb x 92) refl refl
     go false false false e f = rw (e, f)
 
 -- so the index of the first of the four is the length of the run
-module _ (q : Bool) (xs : List ℕ) {c d r : ℕ} (ec : c ≡ pick q 34 32) (ed : d ≡ pick q 34 9) where
-  pub kept_found : r ≡ before (is_one_of 34 34 c d) xs → r ≡ leading (is_kept q) xs
-  kept_found e = rw (ec, ed) at e ∙ leading_same _ _ (kept_is q) xs
+pub kept_found : (q : Bool) (xs : List ℕ) → before (is_one_of 34 34 (pick q 34 32) (pick q 34 9)) xs ≡ leading (is_kept q) xs
+kept_found q xs = leading_same _ _ (kept_is q) xs
 
-  pub plain_found : r ≡ before (is_one_of 34 92 c d) xs → r ≡ leading (is_taken q) xs
-  plain_found e = rw (ec, ed) at e ∙ leading_same _ _ (plain_is q) xs
+pub plain_found : (q : Bool) (xs : List ℕ) → before (is_one_of 34 92 (pick q 34 32) (pick q 34 9)) xs ≡ leading (is_taken q) xs
+plain_found q xs = leading_same _ _ (plain_is q) xs
+
+-- whether a quote mark stands in front, by the unit there
+pub quote_at : (xs : List ℕ) → 1 ≤ length xs → starts_with is_quote xs ≡ eqb (get_or xs 0 0) 34
+quote_at xs h = sym (starts_at is_quote xs h)
+
+pub quote_none : (xs : List ℕ) → length xs < 1 → starts_with is_quote xs ≡ false
+quote_none xs h = sym (starts_none is_quote xs (omega arith))
+
+pub ruleset quotes = (nat_tests, quote_at, quote_none)

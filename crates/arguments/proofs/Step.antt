@@ -124,12 +124,12 @@ module _ (rest before : List ℕ) (here : Point) where
 
   -- inside, at the end of the line
   pub stays : here.quoted ≡ true → length rest ≤ next_unit
-      → Stepped (mark_step here.quoted (drop next_unit rest)) here before before (record { used = next_unit; units = here.units; quoted = true })
+      → Stepped (mark_step here.quoted (drop next_unit rest)) here before before (record { used = next_unit; units = here.units; quoted = here.quoted })
   stays e l = rw (e, drop_of_length-le rest l) (record { uses = refl; counts = omega arith; turns = refl; stores = refl })
 
   -- inside, before a second one
   pub doubles : {after : List ℕ} → here.quoted ≡ true → next_unit < length rest → get_or rest next_unit 0 ≡ 34 → after ≡ set before here.units 34
-      → Stepped (mark_step here.quoted (drop next_unit rest)) here before after (record { used = next_unit + 1; units = here.units + 1; quoted = true })
+      → Stepped (mark_step here.quoted (drop next_unit rest)) here before after (record { used = next_unit + 1; units = here.units + 1; quoted = here.quoted })
   unfolding starts_with
   doubles e h v w = rw (e, at_is rest next_unit 34 h v) (record { uses = omega arith; counts = refl; turns = refl; stores = w })
 

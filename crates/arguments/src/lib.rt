@@ -7,11 +7,12 @@ mod steps;
 ghost use Rattle.std.specs.Prelude.{false};
 ghost use Rattle.arguments.specs.Next.{first_argument, later_argument, OneRead};
 
+use runs::QUOTE;
 use steps::{Point, read_step};
 use stores::copy_run;
 
 // How many units of the line an argument takes, with the blank that ends it, and how many it has.
-#[derive(Clone, Copy)]
+#[derive(Clone, Copy, Debug, PartialEq, Eq)]
 pub struct Took {
     pub used: usize,
     pub units: usize,
@@ -24,22 +25,28 @@ pub fn read_first(line: &[u16], out: &mut [u16]) -> Took
     let mut i = 0;
     let mut n = 0;
     let mut quoted = false;
+    // A while and no iterator: each run's own length leads on.
     while i < line.len() {
         let run = runs::kept_run(&line[i..], quoted);
         let end = i + run;
         copy_run(out, n, &line[i..end]);
         n += run;
-        if line.len() <= end {
-            return Took {
-                used: end,
-                units: n,
-            };
+        match line.get(end) {
+            None => {
+                return Took {
+                    used: end,
+                    units: n,
+                };
+            }
+            Some(&QUOTE) => quoted = !quoted,
+            Some(_) => {
+                return Took {
+                    used: end + 1,
+                    units: n,
+                };
+            }
         }
         i = end + 1;
-        if line[end] != 34 {
-            return Took { used: i, units: n };
-        }
-        quoted = !quoted;
     }
     Took { used: i, units: n }
 }
@@ -53,11 +60,11 @@ pub fn read_later(rest: &[u16], out: &mut [u16]) -> Took
         units: 0,
         quoted: false,
     };
+    // A while and no iterator: each step tells itself how far it leads.
     while here.used < rest.len() {
-        let i = here.used;
-        if runs::is_end(rest[i], here.quoted) {
+        if runs::is_end(rest[here.used], here.quoted) {
             return Took {
-                used: i + 1,
+                used: here.used + 1,
                 units: here.units,
             };
         }

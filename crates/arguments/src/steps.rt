@@ -3,12 +3,12 @@
 ghost use Rattle.std.specs.Prelude.{false, ◌+◌, ◌≤◌, ◌<◌, length, drop};
 ghost use Rattle.arguments.specs.Step.{Stepped, mark_step, slashes_at, step_at};
 
-use super::runs::{plain_run, starts_with_quote};
+use super::runs::{BACKSLASH, QUOTE, plain_run, starts_with_quote};
 use scans::backslashes;
 use stores::{copy_run, put, repeat};
 
 // Where a reader stands: how many units of the rest are used, how many of the argument are written, and whether quoted mode is on.
-#[derive(Clone, Copy)]
+#[derive(Clone, Copy, Debug, PartialEq, Eq)]
 pub struct Point {
     pub used: usize,
     pub units: usize,
@@ -24,28 +24,29 @@ fn read_slashes(rest: &[u16], out: &mut [u16], here: Point) -> Point
     let k = backslashes(&rest[i..]);
     let end = i + k;
     if !starts_with_quote(&rest[end..]) {
-        repeat(out, here.units, 92, k);
+        repeat(out, here.units, BACKSLASH, k);
         return Point {
             used: end,
             units: here.units + k,
-            quoted: here.quoted,
+            ..here
         };
     }
     let half = k / 2;
-    repeat(out, here.units, 92, half);
+    repeat(out, here.units, BACKSLASH, half);
     let units = here.units + half;
     if k % 2 == 1 {
-        put(out, units, 34);
-        return Point {
+        put(out, units, QUOTE);
+        Point {
             used: end + 1,
             units: units + 1,
-            quoted: here.quoted,
-        };
-    }
-    Point {
-        used: end,
-        units,
-        quoted: here.quoted,
+            ..here
+        }
+    } else {
+        Point {
+            used: end,
+            units,
+            ..here
+        }
     }
 }
 
@@ -59,29 +60,26 @@ fn read_mark(rest: &[u16], out: &mut [u16], here: Point) -> Point
     if !here.quoted {
         return Point {
             used: next,
-            units: here.units,
             quoted: true, // it opens
+            ..here
         };
     }
-    if rest.len() <= next {
-        return Point {
+    match rest.get(next) {
+        // Quoted mode is still set, so that even an empty argument is added.
+        None => Point { used: next, ..here },
+        Some(&QUOTE) => {
+            put(out, here.units, QUOTE);
+            Point {
+                used: next + 1,
+                units: here.units + 1,
+                ..here
+            }
+        }
+        Some(_) => Point {
             used: next,
-            units: here.units,
-            quoted: true, // still set, so that even an empty argument is added
-        };
-    }
-    if rest[next] == 34 {
-        put(out, here.units, 34);
-        return Point {
-            used: next + 1,
-            units: here.units + 1,
-            quoted: true,
-        };
-    }
-    Point {
-        used: next,
-        units: here.units,
-        quoted: false,
+            quoted: false,
+            ..here
+        },
     }
 }
 
@@ -91,18 +89,18 @@ pub fn read_step(rest: &[u16], out: &mut [u16], here: Point) -> Point
     ensures { Stepped (step_at here.quoted (drop here.used rest.now)) here out.old out.new result }
 {
     let i = here.used;
-    if rest[i] == 34 {
-        return read_mark(rest, out, here);
-    }
-    if rest[i] == 92 {
-        return read_slashes(rest, out, here);
-    }
-    let run = plain_run(&rest[i..], here.quoted);
-    let end = i + run;
-    copy_run(out, here.units, &rest[i..end]);
-    Point {
-        used: end,
-        units: here.units + run,
-        quoted: here.quoted,
+    match rest[i] {
+        QUOTE => read_mark(rest, out, here),
+        BACKSLASH => read_slashes(rest, out, here),
+        _ => {
+            let run = plain_run(&rest[i..], here.quoted);
+            let end = i + run;
+            copy_run(out, here.units, &rest[i..end]);
+            Point {
+                used: end,
+                units: here.units + run,
+                ..here
+            }
+        }
     }
 }

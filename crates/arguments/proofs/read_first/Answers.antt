@@ -4,6 +4,7 @@ use mathlib.Core.Bool.{Bool, false}
 use mathlib.Core.List.{List}
 use Prim.Native.Nat.{ℕ, ◌+◌, ◌-◌}
 use native.Mathlib.Omega.{arith}
+use Rattle.std.proofs.lemmas.Bool.Decides.{nat_tests}
 use lib.ListN.{drop, take}
 use lib.Seq.{sets}
 use Rattle.laws.specs.Run.{RunAt, part_run, run_at, starts_with, stops_at}
@@ -39,18 +40,21 @@ slice_bounds-copy_run-end c = omega (arith, run_is (goal.at.slice_bounds-copy_ru
 pub overflow_add-n : goal.overflow_add-n
 overflow_add-n c = omega (arith, run_is (goal.at.overflow_add-n c).After-kept_run-run)
 
-pub returns-then-line-end : goal.returns-then-line-end
-returns-then-line-end c =
-    F.finishes (kept c.loop-i.invariant (run_is (goal.at.returns-then-line-end c).After-kept_run-run) c.copy_run.ensures) c.if-line-end.true
+pub returns-in-None : goal.returns-in-None
+returns-in-None c =
+    let g = c.in-None.ensures.lookup in
+    F.finishes (kept c.loop-i.invariant (run_is (goal.at.returns-in-None c).After-kept_run-run) c.copy_run.ensures) (grind (arith, nat_tests, g))
 
-pub returns-then-line-end-ne34 : goal.returns-then-line-end-ne34
-returns-then-line-end-ne34 c =
-    let run = (goal.at.returns-then-line-end-ne34 c).After-kept_run-run in
-    F.stops (kept c.loop-i.invariant (run_is run) c.copy_run.ensures) c.if-line-end.false c.if-line-end-ne34.true (stopped run)
+pub returns-in-Some : goal.returns-in-Some
+returns-in-Some c =
+    let run = (goal.at.returns-in-Some c).After-kept_run-run in
+    let g = c.in-Some.ensures.lookup in
+    F.stops (kept c.loop-i.invariant (run_is run) c.copy_run.ensures) (grind (arith, nat_tests, g)) (grind (arith, nat_tests, g)) (stopped run)
 
 pub loop-i-preserved : goal.loop-i-preserved
 loop-i-preserved c =
-    F.toggles (kept c.loop-i.invariant (run_is (goal.at.loop-i-preserved c).After-kept_run-run) c.copy_run.ensures) c.if-line-end.false c.if-line-end-ne34.false
+    let g = c.in-Some-eq34.ensures.lookup in
+    F.toggles (kept c.loop-i.invariant (run_is (goal.at.loop-i-preserved c).After-kept_run-run) c.copy_run.ensures) (grind (arith, nat_tests, g)) (grind (arith, nat_tests, g))
 
 pub loop-i-init : goal.loop-i-init
 loop-i-init c = still.starts _ _

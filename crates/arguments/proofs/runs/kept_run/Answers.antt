@@ -1,6 +1,7 @@
 -- `arguments::runs::kept_run` meets its contract. Assumes nothing.
+use mathlib.Core.Path.{◌∙◌}
 use Rattle.arguments.proofs.Run.{kept_found}
 use Rattle.arguments.proofs.runs.kept_run.Goals as goal
 
 pub returns : goal.returns
-returns c = kept_found c.args.quoted _ c.outside_quotes-space.ensures c.outside_quotes-tab.ensures c.find_any.ensures
+returns c = c.run_before.ensures ∙ kept_found c.args.quoted c.args.rest.now

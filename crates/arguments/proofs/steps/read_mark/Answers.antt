@@ -2,6 +2,7 @@
 use Rattle.arguments.proofs.Step.{closes, doubles, opens, stays}
 use borrow.Author.Tests.{not-false, not-true}
 use native.Mathlib.Omega.{arith}
+use Rattle.std.proofs.lemmas.Bool.Decides.{nat_tests}
 use Rattle.arguments.proofs.steps.read_mark.Goals as goal
 
 pub returns-then-not-here : goal.returns-then-not-here
@@ -9,25 +10,20 @@ returns-then-not-here c =
     let a = c.args in
     opens a.rest.now a.out.now a.here (not-true a.here.quoted c.if-not-here.true)
 
-pub returns-then-rest-next : goal.returns-then-rest-next
-returns-then-rest-next c =
+pub returns-in-None : goal.returns-in-None
+returns-in-None c =
     let a = c.args in
-    stays a.rest.now a.out.now a.here (not-false a.here.quoted c.if-not-here.false) c.if-rest-next.true
+    let g = c.in-None.ensures.lookup in
+    stays a.rest.now a.out.now a.here (not-false a.here.quoted c.if-not-here.false) (grind (arith, nat_tests, g))
 
-pub overflow_add-result : goal.overflow_add-result
-overflow_add-result c =
-    omega (arith, c.requires)
-
-pub overflow_add-result-then-rest-next-eq34 : goal.overflow_add-result-then-rest-next-eq34
-overflow_add-result-then-rest-next-eq34 c =
-    omega (arith, c.requires)
-
-pub returns-then-rest-next-eq34 : goal.returns-then-rest-next-eq34
-returns-then-rest-next-eq34 c =
+pub returns-in-Some-eq34 : goal.returns-in-Some-eq34
+returns-in-Some-eq34 c =
     let a = c.args in
-    doubles a.rest.now a.out.now a.here (not-false a.here.quoted c.if-not-here.false) c.if-rest-next.false c.if-rest-next-eq34.true c.put.ensures
+    let g = c.in-Some-eq34.ensures.lookup in
+    doubles a.rest.now a.out.now a.here (not-false a.here.quoted c.if-not-here.false) (grind (arith, nat_tests, g)) (grind (arith, nat_tests, g)) c.put.ensures
 
-pub returns : goal.returns
-returns c =
+pub returns-in-Some : goal.returns-in-Some
+returns-in-Some c =
     let a = c.args in
-    closes a.rest.now a.out.now a.here (not-false a.here.quoted c.if-not-here.false) c.if-rest-next.false c.if-rest-next-eq34.false
+    let g = c.in-Some.ensures.lookup in
+    closes a.rest.now a.out.now a.here (not-false a.here.quoted c.if-not-here.false) (grind (arith, nat_tests, g)) (grind (arith, nat_tests, g))

@@ -57,8 +57,8 @@ returns-then-k-eq1 c =
     let r = run_is (goal.at.returns-then-k-eq1 c).After-backslashes-k in
     escaped a.rest.now a.out.now a.here _ r.0 (quote_is a.rest.now a.here.used _ c.starts_with_quote.ensures ∙ c.if-not-starts_with_quote.false) c.if-k-eq1.true c.repeat-2.ensures c.put.ensures
 
-pub returns : goal.returns
-returns c =
+pub returns-else-k-eq1 : goal.returns-else-k-eq1
+returns-else-k-eq1 c =
     let a = c.args in
-    let r = run_is (goal.at.returns c).After-backslashes-k in
+    let r = run_is (goal.at.returns-else-k-eq1 c).After-backslashes-k in
     halved a.rest.now a.out.now a.here _ r.0 (quote_is a.rest.now a.here.used _ c.starts_with_quote.ensures ∙ c.if-not-starts_with_quote.false) c.if-k-eq1.false c.repeat-2.ensures

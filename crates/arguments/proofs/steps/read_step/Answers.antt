@@ -14,13 +14,13 @@ run_is c =
     let a = c.args in
     run_at (is_taken a.here.quoted) a.rest.now a.here.used (omega (arith, c.requires)) c.plain_run-run.ensures
 
-pub returns-then-rest-i-eq34 : goal.returns-then-rest-i-eq34
-returns-then-rest-i-eq34 c =
-    at_mark _ _ c.requires.0 c.if-rest-i-eq34.true c.read_mark.ensures
+pub returns-in-34 : goal.returns-in-34
+returns-in-34 c =
+    at_mark _ _ c.requires.0 c.in-34.is c.read_mark.ensures
 
-pub returns-then-rest-i-eq92 : goal.returns-then-rest-i-eq92
-returns-then-rest-i-eq92 c =
-    at_slash _ _ c.requires.0 c.if-rest-i-eq92.true c.read_slashes.ensures
+pub returns-in-92 : goal.returns-in-92
+returns-in-92 c =
+    at_slash _ _ c.requires.0 c.in-92.is c.read_slashes.ensures
 
 pub overflow_add-end : goal.overflow_add-end
 overflow_add-end c = omega (arith, run_is c)
@@ -31,8 +31,8 @@ slice_bounds-copy_run-end c = omega (arith, run_is (goal.at.slice_bounds-copy_ru
 pub overflow_add-result : goal.overflow_add-result
 overflow_add-result c = omega (arith, run_is (goal.at.overflow_add-result c).After-plain_run-run)
 
-pub returns : goal.returns
-returns c =
+pub returns-in_default : goal.returns-in_default
+returns-in_default c =
     let a = c.args in
-    let r = run_is (goal.at.returns c).After-plain_run-run in
-    plain a.rest.now a.here c.requires.0 _ c.if-rest-i-eq34.false c.if-rest-i-eq92.false r.0 (c.copy_run.ensures ∙ ap (sets a.out.now a.here.units) (part_run a.rest.now a.here.used c.plain_run-run.result))
+    let r = run_is (goal.at.returns-in_default c).After-plain_run-run in
+    plain a.rest.now a.here c.requires.0 _ (omega arith) (omega arith) r.0 (c.copy_run.ensures ∙ ap (sets a.out.now a.here.units) (part_run a.rest.now a.here.used c.plain_run-run.result))
