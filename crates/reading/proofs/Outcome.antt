@@ -2,7 +2,7 @@
 use Rattle.std.specs.Prelude.{Result, Ok}
 use mathlib.Core.Path.{◌≡◌, refl, ap, ◌∙◌}
 use mathlib.Core.Bool.{Bool, true, false}
-use mathlib.Core.List.{List, [], ◌∷◌, ◌++◌, append-nil}
+use mathlib.Core.List.{List, [], ◌∷◌, append-nil}
 use Prim.Native.Nat.{ℕ, zero, suc, ◌+◌, ◌*◌, ◌/◌, ◌≤◌, ◌<◌}
 use native.Mathlib.Omega.{arith}
 use lib.ListN.{length, take}
@@ -20,7 +20,7 @@ use Rattle.laws.specs.Scan.{leading, before, leading_in}
 use Rattle.laws.specs.Choice.{both_true}
 use Rattle.laws.specs.Extent.{read_extent}
 use Rattle.laws.specs.Span.{spans_length}
-use Rattle.laws.specs.Store.{sets_out, sets_front}
+use Rattle.laws.specs.Store.{sets_front}
 use Rattle.reading.specs.Laid.{Laid, line_arguments}
 use Rattle.reading.specs.House.{Housed, housed, sure}
 
@@ -76,14 +76,6 @@ unfolding line_arguments
 line_laid [] executable z r = absurd (z refl)
 line_laid (x ∷ line) executable z r = r
 
--- where no text was lent, none was stored
-pub text_kept : {args : List (List ℕ)} {text' spans spans' : List ℕ} {count units : ℕ} (d : List ℕ) → Laid args [] text' spans spans' count units → text' ++ d ≡ d
-text_kept {args} d r = rw (r.stores, sets_out [] 0 (joined args) (omega arith))
-
--- where no table was lent, nothing was stored in it
-pub spans_kept : {args : List (List ℕ)} {text text' spans' : List ℕ} {count units : ℕ} (d : List ℕ) → Laid args text text' [] spans' count units → spans' ++ d ≡ d
-spans_kept {args} d r = rw (r.tabulates, sets_out [] 0 (spans_of args) (omega arith))
-
 -- ---- the outcome
 
 -- 2
@@ -126,9 +118,9 @@ pub refuses : {o : Outcome (List (List ℕ))} {r : Result Arguments Refusal} {nu
 refuses e a t s = rw e (record { says = a; leaves = t; tabulates = s })
 
 -- the arguments, laid out where there is room, over a text and a table that are as they were
-pub gives : {o : Outcome (List (List ℕ))} {args : List (List ℕ)} {text text₁ text' spans spans₁ spans' : List ℕ} {count units : ℕ} → o ≡ done args
-    → Laid args text₁ text' spans₁ spans' count units → text₁ ≡ text → spans₁ ≡ spans → length (joined args) ≤ length text → length args ≤ length spans / 2
-    → Read o (Ok (record { count = count; units = units })) text text' spans spans'
+pub gives : {o : Outcome (List (List ℕ))} {args : List (List ℕ)} {text text₁ text' spans spans₁ spans' : List ℕ} {counted : Arguments} → o ≡ done args
+    → Laid args text₁ text' spans₁ spans' counted.count counted.units → text₁ ≡ text → spans₁ ≡ spans → length (joined args) ≤ length text → length args ≤ length spans / 2
+    → Read o (Ok counted) text text' spans spans'
 gives {args = args} {text = text} {spans = spans} e r t s h g =
     let l : length (spans_of args) ≡ 2 * length args = spans_length 0 args in
     rw e

@@ -7,24 +7,17 @@ ghost use Rattle.laws.specs.Scan.{leading};
 ghost use Rattle.reading.specs.Laid.{Laid, line_arguments};
 
 use arguments::{read_first, read_later};
+use rules::Arguments;
 use scans::blanks;
-use stores::{copy_run, put_number};
-use units::parts::smaller;
-
-// How many arguments a line has, and how many units their texts.
-#[derive(Clone, Copy)]
-pub struct Sizes {
-    pub count: usize,
-    pub units: usize,
-}
+use stores::{copy_run, put};
 
 // Start and length of an argument at its place of the span table, as far as the table has places.
 fn put_span(spans: &mut [u32], i: usize, start: usize, count: usize)
     requires { (i < 4294967296) × (start < 4294967296) × (count < 4294967296) }
     ensures { spans.new ≡ sets spans.old (2 * i) (start ∷ count ∷ []) }
 {
-    put_number(spans, 2 * i, start as u32);
-    put_number(spans, 2 * i + 1, count as u32);
+    put(spans, 2 * i, start as u32);
+    put(spans, 2 * i + 1, count as u32);
 }
 
 // The place in a line behind the blanks from a place on.
@@ -36,7 +29,7 @@ fn skip_blanks(line: &[u16], i: usize) -> usize
 }
 
 // Lays out the arguments of a line that is not empty, as far as there is room. Each later one is written into the unused rest of the text.
-fn lay(line: &[u16], text: &mut [u16], spans: &mut [u32]) -> Sizes
+fn lay(line: &[u16], text: &mut [u16], spans: &mut [u32]) -> Arguments
     requires { length line.now < 2147483648 }
     ensures { Laid (arguments line.now) text.old text.new spans.old spans.new result.count result.units }
 {
@@ -44,33 +37,32 @@ fn lay(line: &[u16], text: &mut [u16], spans: &mut [u32]) -> Sizes
     let mut n = first.units;
     put_span(spans, 0, 0, n);
     let mut count = 1;
-    let behind = first.used;
-    let mut i = skip_blanks(line, behind);
+    let mut i = skip_blanks(line, first.used);
+    // A while and no iterator: each argument tells itself how far it reaches.
     while i < line.len() {
-        let from = smaller(n, text.len());
+        let from = n.min(text.len());
         let took = read_later(&line[i..], &mut text[from..]);
-        let units = took.units;
-        put_span(spans, count, n, units);
+        put_span(spans, count, n, took.units);
         count += 1;
-        n += units;
-        let behind = i + took.used;
-        i = skip_blanks(line, behind);
+        n += took.units;
+        i = skip_blanks(line, i + took.used);
     }
-    Sizes { count, units: n }
+    Arguments { count, units: n }
 }
 
 // Lays out the arguments of a line: of an empty one the executable name, taken as it is.
-pub fn lay_line(line: &[u16], exe_name: &[u16], text: &mut [u16], spans: &mut [u32]) -> Sizes
+pub fn lay_line(line: &[u16], exe_name: &[u16], text: &mut [u16], spans: &mut [u32]) -> Arguments
     requires { (length line.now < 2147483648) × (length line.now ≡ 0 → length exe_name.now < 2147483648) }
     ensures { Laid (line_arguments line.now exe_name.now) text.old text.new spans.old spans.new result.count result.units }
 {
-    if line.len() == 0 {
+    if line.is_empty() {
         copy_run(text, 0, exe_name);
         put_span(spans, 0, 0, exe_name.len());
-        return Sizes {
+        Arguments {
             count: 1,
             units: exe_name.len(),
-        };
+        }
+    } else {
+        lay(line, text, spans)
     }
-    lay(line, text, spans)
 }

@@ -22,21 +22,16 @@ pub const READ_LIMIT: usize = 32767;
 fn units_read(line: usize, exe_name: usize) -> usize
     ensures { result ≡ pick (eqb line 0) exe_name line }
 {
-    if line == 0 {
-        return exe_name;
-    }
-    line
+    if line == 0 { exe_name } else { line }
 }
 
 // Whether room and table surely hold whatever so many units give: at most as many text units, and an argument for every two units and one more.
+#[tactic(auto, unfolding(rules::specs::Reading::read_limit))]
 fn surely_fits(units: usize, room: usize, numbers: usize) -> bool
     requires { units ≤ read_limit }
     ensures { result ≡ sure units room numbers }
 {
-    if units <= room {
-        return units + 2 <= numbers;
-    }
-    false
+    units <= room && units + 2 <= numbers
 }
 
 // Lays out arguments that surely fit: nothing can be refused any more, so nothing is measured before.
@@ -49,11 +44,7 @@ fn read_at_once(
     requires { Short line.now exe_name.now × Housed (line_arguments line.now exe_name.now) (length text.old) (length spans.old) }
     ensures { Read (housed (line_arguments line.now exe_name.now) (length text.old) (length spans.old)) result text.old text.new spans.old spans.new }
 {
-    let laid = lay_line(line, exe_name, text, spans);
-    Ok(Arguments {
-        count: laid.count,
-        units: laid.units,
-    })
+    Ok(lay_line(line, exe_name, text, spans))
 }
 
 // Measures first, so that every refusal is decided before anything is stored; then writes.
@@ -66,10 +57,8 @@ fn read_measured(
     requires { Short line.now exe_name.now }
     ensures { Read (housed (line_arguments line.now exe_name.now) (length text.old) (length spans.old)) result text.old text.new spans.old spans.new }
 {
-    let places = spans.len() / 2;
-    let none = 0;
-    let need = lay_line(line, exe_name, &mut text[..none], &mut spans[..none]);
-    if places < need.count {
+    let need = lay_line(line, exe_name, &mut [], &mut []);
+    if spans.len() / 2 < need.count {
         return Err(Refusal::Places);
     }
     if text.len() < need.units {
@@ -92,14 +81,16 @@ pub fn parse_lp_cmd_line(
     if READ_LIMIT < counted {
         return Err(Refusal::Length);
     }
+    let line = &units[..n];
     if surely_fits(counted, text.len(), spans.len()) {
-        return read_at_once(&units[..n], exe_name, text, spans);
+        read_at_once(line, exe_name, text, spans)
+    } else {
+        read_measured(line, exe_name, text, spans)
     }
-    read_measured(&units[..n], exe_name, text, spans)
 }
 
 // Where a part lies in the caller's text.
-#[derive(Clone, Copy)]
+#[derive(Clone, Copy, Debug, PartialEq, Eq)]
 pub struct Span {
     pub start: usize,
     pub len: usize,
@@ -109,15 +100,17 @@ pub struct Span {
 pub fn span_of(text: &[u16], spans: &[u32], index: usize) -> Span
     ensures { result ≡ argument_span text.now spans.now index }
 {
+    let none = Span { start: 0, len: 0 };
     if spans.len() / 2 <= index {
-        return Span { start: 0, len: 0 };
+        return none;
     }
     let start = spans[2 * index] as usize;
     let len = spans[2 * index + 1] as usize;
     if text.len() < start + len {
-        return Span { start: 0, len: 0 };
+        none
+    } else {
+        Span { start, len }
     }
-    Span { start, len }
 }
 
 // The part of the caller's text itself that an argument is, or an empty one.
@@ -125,7 +118,5 @@ pub fn argument<'a>(text: &'a [u16], spans: &[u32], index: usize) -> &'a [u16]
     ensures { result.now ≡ argument_part text.now spans.now index }
 {
     let span = span_of(text, spans, index);
-    let start = span.start;
-    let end = start + span.len;
-    &text[start..end]
+    &text[span.start..span.start + span.len]
 }

@@ -12,11 +12,11 @@ use Rattle.reading.proofs.argument.Goals as goal
 inside : (text spans : List ℕ) (index : ℕ) {span : Span} → span ≡ argument_span text spans index → span.start + span.len ≤ length text
 inside text spans index e = rw e (span_inside text spans index)
 
-pub overflow_add-end : goal.overflow_add-end
-overflow_add-end c = let a = c.args in omega (arith, inside a.text.now a.spans.now a.index c.span_of-span.ensures)
+pub overflow_add-result : goal.overflow_add-result
+overflow_add-result c = let a = c.args in omega (arith, inside a.text.now a.spans.now a.index c.span_of-span.ensures)
 
-pub offset_bounds-text-start : goal.offset_bounds-text-start
-offset_bounds-text-start c = let a = c.args in omega (arith, inside a.text.now a.spans.now a.index c.span_of-span.ensures)
+pub offset_bounds-text-span : goal.offset_bounds-text-span
+offset_bounds-text-span c = let a = c.args in omega (arith, inside a.text.now a.spans.now a.index c.span_of-span.ensures)
 
 pub slice_bounds-result-end : goal.slice_bounds-result-end
 slice_bounds-result-end c = let a = c.args in inside a.text.now a.spans.now a.index c.span_of-span.ensures

@@ -45,8 +45,8 @@ pub surely_fits-requires : goal.surely_fits-requires
 unfolding read_limit
 surely_fits-requires c = search rules
 
-pub slice_bounds-read_at_once-end : goal.slice_bounds-read_at_once-end
-slice_bounds-read_at_once-end c = let a = c.args in sym (sized a.exe_name.now a.units.now c.find_nul-n.ensures c.units_read-counted.ensures)
+pub slice_bounds-line-end : goal.slice_bounds-line-end
+slice_bounds-line-end c = let a = c.args in sym (sized a.exe_name.now a.units.now c.find_nul-n.ensures c.units_read-counted.ensures)
 
 pub read_at_once-requires : goal.read_at_once-requires
 read_at_once-requires c =
@@ -63,16 +63,13 @@ returns-then-surely_fits c =
     let n = c.find_nul-n in
     rw (behind_limit name lent n.result n.ensures _ _ (fits name lent n.ensures c.units_read-counted.ensures c.if-counted-gt-READ_LIMIT.false)) at c.read_at_once.ensures
 
-pub slice_bounds-read_measured-end : goal.slice_bounds-read_measured-end
-slice_bounds-read_measured-end c = let a = c.args in sym (sized a.exe_name.now a.units.now c.find_nul-n.ensures c.units_read-counted.ensures)
-
 pub read_measured-requires : goal.read_measured-requires
 read_measured-requires c =
     let a = c.args in
     short_line a.exe_name.now a.units.now c.find_nul-n.ensures c.units_read-counted.ensures c.if-counted-gt-READ_LIMIT.false
 
-pub returns : goal.returns
-returns c =
+pub returns-else-surely_fits : goal.returns-else-surely_fits
+returns-else-surely_fits c =
     let name = c.args.exe_name.now in
     let lent = c.args.units.now in
     let n = c.find_nul-n in

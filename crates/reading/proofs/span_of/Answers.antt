@@ -22,6 +22,6 @@ pub returns-then-text-start : goal.returns-then-text-start
 unfolding argument_span
 returns-then-text-start c = rw (lt-ltb _ _ c.if-spans-index.false, lt-ltb _ _ c.if-text-start.true)
 
-pub returns : goal.returns
+pub returns-else-text-start : goal.returns-else-text-start
 unfolding argument_span
-returns c = rw (lt-ltb _ _ c.if-spans-index.false, le-ltb _ _ c.if-text-start.false)
+returns-else-text-start c = rw (lt-ltb _ _ c.if-spans-index.false, le-ltb _ _ c.if-text-start.false)

@@ -1,5 +1,8 @@
 -- `reading::laying::lay` meets its contract. Assumes nothing.
-use Prim.Native.Nat.{◌<◌}
+use Prim.Native.Nat.{◌<◌, min}
+use mathlib.Core.Path.{◌≡◌}
+use borrow.Author.Rules.{rules}
+use Rattle.std.proofs.lemmas.Bool.Decides.{nat_tests}
 use native.Mathlib.Omega.{arith}
 use lib.ListN.{drop, length, length-drop}
 use Rattle.laws.specs.Store.{back_is, part_is}
@@ -23,10 +26,10 @@ loop-i-smaller c =
 pub loop-i-preserved : goal.loop-i-preserved
 loop-i-preserved c =
     let l = c.loop-i in
-    let smaller = c.smaller-from in
     let took = c.read_later-took in
-    let from = smaller.result in
-    Y.turn l.invariant from _ c.loop-i-test.true (rw (part_is l.i _) at took.ensures) (part_is from l.text) (back_is from l.text _) smaller.ensures
+    let from = c.min-from.result in
+    let lesser : from ≡ min l.n (length l.text) = search (rules, nat_tests) in
+    Y.turn l.invariant from _ c.loop-i-test.true (rw (part_is l.i _) at took.ensures) (part_is from l.text) (back_is from l.text _) lesser
     c.put_span-in-loop-i.ensures c.skip_blanks-i-in-loop-i.ensures.0 c.skip_blanks-i-in-loop-i.ensures.1
 
 pub returns : goal.returns

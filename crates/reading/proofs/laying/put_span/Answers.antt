@@ -4,4 +4,4 @@ use native.Mathlib.Numerals.{add-one}
 use Rattle.reading.proofs.laying.put_span.Goals as goal
 
 pub returns : goal.returns
-returns c = c.put_number-2.ensures ∙ rw (c.put_number.ensures, add-one)
+returns c = c.put-2.ensures ∙ rw (c.put.ensures, add-one)
