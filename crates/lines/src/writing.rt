@@ -13,7 +13,14 @@ use std::rt::Env;
 // The line of what is given, and what is read back from an ordinary one.
 fn say_line(rt: &impl Print, batch: bool, force: bool, given: &Given) -> Result<()> {
     let mut out = room::out();
-    let built = build(batch, given.program, given.records, given.text, force, &mut out);
+    let built = build(
+        batch,
+        given.program,
+        given.records,
+        given.text,
+        force,
+        &mut out,
+    );
     match say_built(rt, built, &out, limit_of(batch))? {
         Some(line) if !batch => {
             println!(rt; "read back:")?;

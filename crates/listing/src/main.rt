@@ -99,7 +99,9 @@ fn list_dump(rt: &impl Print, bytes: &[u8]) -> Result<()> {
 // The words of the call are `entries` and the dump. No more of it is read than tells that it is longer than any block.
 fn main(rt: HostRuntime) -> Result<()> {
     if arg_count(&rt) != 3 {
-        return println!(&rt; "error: entries takes one word, the file of a dump, or - for standard input");
+        return println!(&rt;
+            "error: entries takes one word, the file of a dump, or - for standard input"
+        );
     }
     let mut bytes = room::word();
     match read_word(&rt, 2, &mut bytes) {

@@ -65,7 +65,9 @@ fn compare(rt: &impl Print, back: &Back, given: &Given) -> Result<()> {
     say_arguments(rt, back)?;
     say_verdict(rt, back, given)?;
     if has_quote(given.program) {
-        println!(rt; "a quote in the program is written as it is, and whoever reads the line drops it")?;
+        println!(rt;
+            "a quote in the program is written as it is, and whoever reads the line drops it"
+        )?;
     }
     Ok(())
 }
