@@ -1,6 +1,7 @@
 // Lines that the entries over a slice of records build, printed: an ordinary line, a batch line, and two refusals.
 use pages::front;
 use rules::{Arg, Line, Refusal};
+use slices::{make_bat_command_line_of_four, make_command_line_of_four};
 use std::io;
 use units::refusals::{number_of, place_of};
 
@@ -31,28 +32,20 @@ fn records(third: u32) -> [Arg; 4] {
     })
 }
 
-// An ordinary line of program `p\go.exe` into what is lent.
-fn print_ordinary(rt: &impl Print, third: u32, text: &[u16], out: &mut [u16]) -> io::Result<()> {
-    let program = b"p\\go.exe".map(u16::from);
-    let answer = slices::make_command_line_of_four(&program, records(third), text, false, out);
-    print_answer(rt, answer, out)
-}
-
-// A batch line of script `go.bat` with forced quotes into what is lent.
-fn print_batch(rt: &impl Print, text: &[u16], out: &mut [u16]) -> io::Result<()> {
-    let script = b"go.bat".map(u16::from);
-    let answer = slices::make_bat_command_line_of_four(&script, records(0), text, true, out);
-    print_answer(rt, answer, out)
-}
-
-// Two lines; a record of no kind; a line that has no room.
+// Two lines, of program `p\go.exe` and, with forced quotes, of script `go.bat`; a record of no kind; a line that has no room.
 pub fn print_lines(rt: &impl Print) -> io::Result<()> {
+    let program = b"p\\go.exe".map(u16::from);
+    let script = b"go.bat".map(u16::from);
     let text = b"one twosay \"hi\"\\100%/raw".map(u16::from);
     let mut out = [0u16; 128];
     let mut short = [0u16; 20];
     println!(rt; "Lines from a slice of records")?;
-    print_ordinary(rt, 0, &text, &mut out)?;
-    print_batch(rt, &text, &mut out)?;
-    print_ordinary(rt, 2, &text, &mut out)?;
-    print_ordinary(rt, 0, &text, &mut short)
+    let line = make_command_line_of_four(&program, records(0), &text, false, &mut out);
+    print_answer(rt, line, &out)?;
+    let line = make_bat_command_line_of_four(&script, records(0), &text, true, &mut out);
+    print_answer(rt, line, &out)?;
+    let line = make_command_line_of_four(&program, records(2), &text, false, &mut out);
+    print_answer(rt, line, &out)?;
+    let line = make_command_line_of_four(&program, records(0), &text, false, &mut short);
+    print_answer(rt, line, &short)
 }

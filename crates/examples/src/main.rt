@@ -10,6 +10,22 @@ use listed::print_lines;
 use rules::Refusal;
 use std::io::Result;
 
+// The table for the C language.
+const C_TABLE: [(&str, &str); 6] = [
+    ("exe \"a b c\" d e", "exe\na b c\nd\ne\n"),
+    ("exe \"ab\\\"c\" \"\\\\\" d", "exe\nab\"c\n\\\nd\n"),
+    ("exe a\\\\\\b d\"e f\"g h", "exe\na\\\\\\b\nde fg\nh\n"),
+    ("exe a\\\\\\\"b c d", "exe\na\\\"b\nc\nd\n"),
+    ("exe a\\\\\\\\\"b c\" d e", "exe\na\\\\b c\nd\ne\n"),
+    ("exe a\"b\"\" c d", "exe\nab\" c d\n"),
+];
+
+// The table for C++, the rows that the one for C has not.
+const CPP_TABLE: [(&str, &str); 2] = [
+    ("exe \"abc\" d e", "exe\nabc\nd\ne\n"),
+    ("exe a\\\\b d\"e f\"g h", "exe\na\\\\b\nde fg\nh\n"),
+];
+
 // The document's examples that carry no mark.
 fn unmarked(rt: &impl Print) -> Result<()> {
     println!(rt; "The document's unmarked examples")?;
@@ -44,28 +60,19 @@ fn errors(rt: &impl Print) -> Result<()> {
     unchanged(rt)
 }
 
-// The table for the C language.
-fn c_table(rt: &impl Print) -> Result<()> {
-    println!(rt; "Microsoft: Parsing C command-line arguments")?;
-    reads(rt, "exe \"a b c\" d e", "exe\na b c\nd\ne\n")?;
-    reads(rt, "exe \"ab\\\"c\" \"\\\\\" d", "exe\nab\"c\n\\\nd\n")?;
-    reads(rt, "exe a\\\\\\b d\"e f\"g h", "exe\na\\\\\\b\nde fg\nh\n")?;
-    reads(rt, "exe a\\\\\\\"b c d", "exe\na\\\"b\nc\nd\n")?;
-    reads(rt, "exe a\\\\\\\\\"b c\" d e", "exe\na\\\\b c\nd\ne\n")?;
-    reads(rt, "exe a\"b\"\" c d", "exe\nab\" c d\n")
-}
-
-// The table for C++, the rows that the one for C has not.
-fn cpp_table(rt: &impl Print) -> Result<()> {
-    println!(rt; "Microsoft: main function and command-line arguments")?;
-    reads(rt, "exe \"abc\" d e", "exe\nabc\nd\ne\n")?;
-    reads(rt, "exe a\\\\b d\"e f\"g h", "exe\na\\\\b\nde fg\nh\n")
+// The lines of a table and what each is read as, behind the table's name.
+fn table(rt: &impl Print, name: &str, rows: &[(&str, &str)]) -> Result<()> {
+    println!(rt; "Microsoft: {name}")?;
+    for &(line, stated) in rows {
+        reads(rt, line, stated)?;
+    }
+    Ok(())
 }
 
 fn main(rt: HostRuntime) -> Result<()> {
     unmarked(&rt)?;
     errors(&rt)?;
-    c_table(&rt)?;
-    cpp_table(&rt)?;
+    table(&rt, "Parsing C command-line arguments", &C_TABLE)?;
+    table(&rt, "main function and command-line arguments", &CPP_TABLE)?;
     print_lines(&rt)
 }

@@ -32,7 +32,7 @@ pub enum Manner {
 #[derive(Clone, Copy, Debug, PartialEq, Eq)]
 pub struct Answer {
     pub word: Word,
-    // How many of the two numbers stand behind the word.
+    // How many of the two numbers stand behind the word. A count and two numbers: `answer`, `brief` and `numbered` of `sayings` define answers by them.
     pub count: usize,
     pub first: u64,
     pub second: u64,
@@ -94,6 +94,7 @@ impl Manner {
 }
 
 // A number where it is shown.
+#[tactic(auto, using(crate::proofs::Putting::none_put))]
 fn put_if(piece: &mut [u8], p: Place, shown: bool, number: u64) -> Place
     ensures { Puts (number_if shown number) p result piece.old piece.new }
 {
@@ -113,6 +114,7 @@ fn put_one(piece: &mut [u8], p: Place, manner: Manner, text: &[u16]) -> Place
 }
 
 // All texts that a span table names.
+#[tactic(auto, using(crate::proofs::Putting::texts_done))]
 fn put_texts(piece: &mut [u8], p: Place, manner: Manner, out: &[u16], spans: &[u32]) -> Place
     ensures { Puts (texts_bytes manner (texts_in out.now spans.now)) p result piece.old piece.new }
 {

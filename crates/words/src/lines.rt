@@ -41,6 +41,7 @@ fn take_words(
     let mut at = start;
     let mut i = 0;
     let mut held = Held { units: 0, count: 0 };
+    // A `while`: the next word starts where a call says that this one ends.
     while at <= line.len() {
         let end = word_end(line, at);
         let shape = shape_at(letters, i)?;
