@@ -10,7 +10,7 @@ use entries::read_envp;
 use fields::values::{number_at, rest_from, text_at, wide_at};
 use reading::parse_lp_cmd_line;
 use replies::answers::{Answer, Word};
-use sayings::{counts_told, lent_told, name_front, said, with_numbers};
+use sayings::{counts_told, lent_told, name_text, said, with_numbers};
 use status::status_text;
 use stores::copy_run;
 
@@ -20,7 +20,7 @@ fn lend(out: &mut [u16], spans: &mut [u32], units: &[u16]) -> usize
 {
     copy_run(out, 0, units);
     let places = units.len().min(out.len());
-    name_front(spans, places);
+    name_text(spans, 0, places);
     places
 }
 

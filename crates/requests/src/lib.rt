@@ -17,7 +17,7 @@ use reading::parse_lp_cmd_line;
 use replies::answers::Answer;
 use sayings::{entries_told, text_told, texts_told, with_numbers, with_one};
 use status::{code, status_text};
-use stores::{copy_run, put_number};
+use stores::{copy_run, put};
 
 // `read EXE LINE`
 fn read(text: &[u16], numbers: &[u32], out: &mut [u16], spans: &mut [u32]) -> Answer {
@@ -66,15 +66,15 @@ fn status(numbers: &mut [u32], out: &mut [u16], spans: &mut [u32]) -> Answer {
     let status = number_at(numbers, 0);
     let signed = code(status);
     let told = text_told(status_text(status, out), spans);
-    put_number(numbers, 0, signed.unsigned_abs());
+    put(numbers, 0, signed.unsigned_abs());
     with_numbers(told, 0, 1, signed < 0)
 }
 
 // How many questions the first set has.
 pub const COUNT: usize = 7;
 
-// The question of a row of the first set, in the order of the table. What is lent stays four parameters: a struct of them is not passed on to a call while
-// the text in it is read, and its clauses would name the output by its position.
+// The question of a row of the first set, in the order of the table. What is lent stays four parameters: each function would have to take a struct of them
+// apart again before it lends one of them, with as many lines as it has fields.
 pub fn ask(
     row: usize,
     text: &[u16],

@@ -9,9 +9,8 @@ ghost use Rattle.sayings.specs.Told.{numbered, brief, refused_told, text_told, t
 
 use replies::answers::{Answer, Manner, Word};
 use rules::{Cached, Refusal};
-use stores::put_number;
+use stores::put;
 use units::counts::Counted;
-use units::parts::smaller;
 use units::refusals::{number_of, place_of};
 
 // A word alone.
@@ -49,7 +48,7 @@ fn refused(r: Refusal, spans: usize) -> Answer
 {
     Answer {
         count: 2,
-        first: number_of(r) as u64,
+        first: u64::from(number_of(r)),
         second: place_of(r) as u64,
         spans,
         ..said(Word::Refused)
@@ -68,19 +67,19 @@ pub fn with_numbers(a: Answer, from: usize, to: usize, negative: bool) -> Answer
     }
 }
 
-// Names so many units from a start on as the table's first text.
-fn name_part(spans: &mut [u32], start: usize, units: usize)
-    ensures { spans.new ≡ sets spans.old 0 (span_of start units) }
+// A number as the span table has it: what does not fit is its largest.
+fn clipped(number: usize) -> u32
+    ensures { result ≡ min number 4294967295 }
 {
-    put_number(spans, 0, smaller(start, 4294967295) as u32);
-    put_number(spans, 1, smaller(units, 4294967295) as u32);
+    u32::try_from(number).unwrap_or(u32::MAX)
 }
 
-// Names so many units in front of the output as the table's first text.
-pub fn name_front(spans: &mut [u32], units: usize)
-    ensures { spans.new ≡ sets spans.old 0 (span_of 0 units) }
+// Names so many units from a start on as the table's first text.
+pub fn name_text(spans: &mut [u32], start: usize, units: usize)
+    ensures { spans.new ≡ sets spans.old 0 (span_of start units) }
 {
-    name_part(spans, 0, units);
+    put(spans, 0, clipped(start));
+    put(spans, 1, clipped(units));
 }
 
 // `ok TEXT`; the table's first text is what stands in front of the output
@@ -90,7 +89,7 @@ pub fn text_told<T: Counted>(answer: Result<T, Refusal>, spans: &mut [u32]) -> A
 {
     match answer {
         Ok(text) => {
-            name_front(spans, text.counts().units);
+            name_text(spans, 0, text.counts().units);
             Answer {
                 spans: 2,
                 ..said(Word::Ok)
@@ -176,7 +175,7 @@ pub fn entries_told<T: Counted>(answer: Result<T, Refusal>, places: usize) -> An
 fn line_told(word: Word, start: usize, units: usize, spans: &mut [u32]) -> Answer
     ensures { (result ≡ brief word 0 0 0 2) × (spans.new ≡ sets spans.old 0 (span_of start units)) }
 {
-    name_part(spans, start, units);
+    name_text(spans, start, units);
     Answer {
         spans: 2,
         ..said(word)
