@@ -1,5 +1,5 @@
 -- What a lookup and a storing say, from what their parts say. Assumes nothing.
-use Rattle.std.specs.Prelude.{Result, Ok, Err}
+use Rattle.std.specs.Prelude.{Option, Some, None, Result, Ok, Err}
 use Prim.Native.Nat.{ℕ, ◌≤◌}
 use native.Mathlib.Omega.{arith}
 use mathlib.Core.Path.{◌≡◌, refl, sym, ◌∙◌}
@@ -15,7 +15,7 @@ use Rattle.rules.specs.Cache.{CacheEntry, cache_entry, all_use, Served, nowhere,
 use Rattle.rules.specs.Store.{all_words, index_of, Represents, Empties, LooksUp, StoredOver, Stores}
 use Rattle.laws.specs.Prepared.{fault_first}
 use Rattle.laws.specs.Standing.{stands_built}
-use Rattle.finding.specs.declared.Found.{Found}
+use Rattle.finding.specs.declared.Place.{Place}
 use Rattle.finding.specs.Found.{hit_of, FindsLine}
 use Rattle.storing.specs.Added.{adding_new, Adds}
 
@@ -42,11 +42,11 @@ module _ {places : ℕ} {index units : List ℕ} (fingerprint : ℕ) (lent : Lau
   looked_refused refusal e = record { says = λ es r. rw (← e); lies = tt }
 
   -- they are sound
-  pub looked_found : (f : Found) → faultless ≡ argument_fault lent.text lent.records → FindsLine places index units fingerprint lent f
+  pub looked_found : (f : Option Place) → faultless ≡ argument_fault lent.text lent.records → FindsLine places index units fingerprint lent f
       → LooksUp places index units fingerprint lent (hit_of f)
   unfolding looking
-  looked_found (Found.There start n) e l = record { says = λ es h. rw (← e, ← l.says es h); lies = l.lies }
-  looked_found Found.Nowhere e l = record { says = λ es h. rw (← e, ← l.says es h); lies = tt }
+  looked_found (Some p) e l = record { says = λ es h. rw (← e, ← l.says es h); lies = l.lies }
+  looked_found None e l = record { says = λ es h. rw (← e, ← l.says es h); lies = tt }
 
   -- ---- a storing
 
@@ -69,8 +69,8 @@ module _ {places : ℕ} {index units : List ℕ} (fingerprint : ℕ) (lent : Lau
       }
 
   -- what was found is held
-  pub stored_held : {start n : ℕ} → faultless ≡ argument_fault lent.text lent.records → FindsLine places index units fingerprint lent (Found.There start n)
-      → Stores places fingerprint lent (Ok (Cached.Held start n)) index units index units
+  pub stored_held : {p : Place} → faultless ≡ argument_fault lent.text lent.records → FindsLine places index units fingerprint lent (Some p)
+      → Stores places fingerprint lent (Ok (Cached.Held p.start p.units)) index units index units
   unfolding storing
   stored_held e f =
       record {
@@ -83,7 +83,7 @@ module _ {places : ℕ} {index units : List ℕ} (fingerprint : ℕ) (lent : Lau
       }
 
   -- what was not found is added, or refused
-  pub stored_new : (r : Result Cached Refusal) {index' units' : List ℕ} → FindsLine places index units fingerprint lent Found.Nowhere
+  pub stored_new : (r : Result Cached Refusal) {index' units' : List ℕ} → FindsLine places index units fingerprint lent None
       → Adds places fingerprint lent r index units index' units' → Stores places fingerprint lent r index units index' units'
   stored_new r {index'} {units'} f a =
       record {

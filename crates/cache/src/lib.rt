@@ -6,9 +6,9 @@ ghost use Rattle.rules.specs.Record.{part};
 ghost use Rattle.rules.specs.Key.{launch};
 ghost use Rattle.rules.specs.Cache.{cache_places};
 ghost use Rattle.rules.specs.Store.{Empties, LooksUp, Stores};
-ghost use Rattle.finding.specs.Found.{hit_of};
 
-use finding::{Found, find};
+use finding::{Place, find};
+use keys::lent::Lent;
 use records::first_fault;
 use rules::{Cached, Refusal};
 use storing::add;
@@ -43,16 +43,6 @@ pub fn clear(index: &mut [u64; WORDS])
     empty(index);
 }
 
-// What a lookup answers to what was found.
-fn looked(found: Found) -> Result<Cached, Refusal>
-    ensures { result ≡ hit_of found }
-{
-    match found {
-        Found::There { start, units } => Ok(Cached::Hit { start, units }),
-        Found::Nowhere => Ok(Cached::Missed),
-    }
-}
-
 // Looks for the line of a key under a fingerprint.
 pub fn lookup(
     index: &[u64; WORDS],
@@ -66,17 +56,16 @@ pub fn lookup(
     ensures { LooksUp cache_places index.now units.now fingerprint (launch force_quotes program.now records.now text.now) result }
 {
     first_fault(text, records)?;
-    let found = find(
-        PLACES,
-        index,
-        units,
-        fingerprint,
+    let lent = Lent {
         program,
         records,
         text,
         force_quotes,
-    );
-    looked(found)
+    };
+    Ok(match find(PLACES, index, units, fingerprint, &lent) {
+        Some(Place { start, units }) => Cached::Hit { start, units },
+        None => Cached::Missed,
+    })
 }
 
 // The line of a hit: that part of the units.
@@ -99,27 +88,14 @@ pub fn store(
     ensures { Stores cache_places fingerprint (launch force_quotes program.now records.now text.now) result index.old units.old index.new units.new }
 {
     first_fault(text, records)?;
-    let found = find(
-        PLACES,
-        index,
-        units,
-        fingerprint,
+    let lent = Lent {
         program,
         records,
         text,
         force_quotes,
-    );
-    match found {
-        Found::There { start, units } => Ok(Cached::Held { start, units }),
-        Found::Nowhere => add(
-            PLACES,
-            index,
-            units,
-            fingerprint,
-            program,
-            records,
-            text,
-            force_quotes,
-        ),
+    };
+    match find(PLACES, index, units, fingerprint, &lent) {
+        Some(Place { start, units }) => Ok(Cached::Held { start, units }),
+        None => add(PLACES, index, units, fingerprint, &lent),
     }
 }

@@ -4,27 +4,22 @@
 ghost use Rattle.std.specs.Prelude.{◌≡◌, ◌∷◌, [], ◌+◌, ◌*◌, ◌≤◌, ◌<◌, length};
 ghost use Rattle.std.proofs.lemmas.List.Edits.{sets};
 ghost use Rattle.rules.specs.Choice.{pick};
-ghost use Rattle.rules.specs.Key.{launch};
+ghost use Rattle.keys.specs.Lent.{launch_of};
 ghost use Rattle.rules.specs.Store.{flag_word};
 ghost use Rattle.storing.specs.Added.{refusal_for, EntryPut, Adds};
 
 use building::make_command_line;
 use keys::index::{flag_word, word_at};
 use keys::laying;
+use keys::lent::Lent;
 use rules::{Cached, Line, Refusal};
-use units::parts;
-use units::refusals::number_of;
 
 // Words from a place on.
 fn put_words(index: &mut [u64], at: usize, words: &[u64])
     requires { at + length words.now ≤ length index.old }
     ensures { index.new ≡ sets index.old at words.now }
 {
-    let mut i = 0;
-    while i < words.len() {
-        index[at + i] = words[i];
-        i += 1;
-    }
+    index[at..at + words.len()].copy_from_slice(words);
 }
 
 // Where a line is built: behind its key; where all entries are used, behind all units, so that it has no room.
@@ -38,13 +33,10 @@ fn place_for(full: bool, all: usize, behind: usize) -> usize
 fn refusal_for(full: bool, r: Refusal) -> Refusal
     ensures { result ≡ refusal_for full r }
 {
-    if number_of(r) != 4 {
-        return r;
+    match r {
+        Refusal::Room if full => Refusal::Places,
+        _ => r,
     }
-    if full {
-        return Refusal::Places;
-    }
-    Refusal::Room
 }
 
 // The words of one entry more, whose units start where those of the others end; then how many entries there are and how many units they use.
@@ -81,23 +73,26 @@ pub fn add(
     index: &mut [u64],
     units: &mut [u16],
     fingerprint: u64,
-    program: &[u16],
-    records: &[u32],
-    text: &[u16],
-    force_quotes: bool,
+    lent: &Lent<'_>,
 ) -> Result<Cached, Refusal>
     requires { 2 + 6 * places ≤ length index.old }
-    ensures { Adds places fingerprint (launch force_quotes program.now records.now text.now) result index.old units.old index.new units.new }
+    ensures { Adds places fingerprint (launch_of lent.now) result index.old units.old index.new units.new }
 {
+    let Lent {
+        program,
+        records,
+        text,
+        force_quotes,
+    } = *lent;
     let count = word_at(index, 0);
     let full = places <= count;
-    let used = parts::smaller(units.len(), word_at(index, 1));
-    let key = laying::key_size(program, records, text, units.len() - used);
+    let used = units.len().min(word_at(index, 1));
+    let key = laying::key_size(lent, units.len() - used);
     let start = place_for(full, units.len(), used + key);
     match make_command_line(program, records, text, force_quotes, &mut units[start..]) {
         Err(r) => Err(refusal_for(full, r)),
         Ok(Line { units: line }) => {
-            laying::put_key(units, used, program, records, text);
+            laying::put_key(units, used, lent);
             put_entry(
                 index,
                 count,

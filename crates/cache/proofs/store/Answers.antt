@@ -12,16 +12,16 @@ returns-in_err-first_fault c =
     let p = err_from_is_err_and c.from_residual.result c.from_residual.ensures.1 in
     rw (p.1, p.2) (stored_refused s.fingerprint lent _ c.in_err-first_fault.ensures)
 
-pub returns-in-There : goal.returns-in-There
+pub returns-in-Some : goal.returns-in-Some
 unfolding cache_places
-returns-in-There c =
+returns-in-Some c =
     let s = c.args in
     let lent = launch s.force_quotes s.program.now s.records.now s.text.now in
-    stored_held s.fingerprint lent c.in_ok-first_fault.ensures (rw c.in-There.is at c.find-found.ensures)
+    stored_held s.fingerprint lent c.in_ok-first_fault.ensures (rw c.in-Some.is at c.find.ensures)
 
-pub returns-in-Nowhere : goal.returns-in-Nowhere
+pub returns-in-None : goal.returns-in-None
 unfolding cache_places
-returns-in-Nowhere c =
+returns-in-None c =
     let s = c.args in
     let lent = launch s.force_quotes s.program.now s.records.now s.text.now in
-    stored_new s.fingerprint lent _ (rw c.in-Nowhere.is at c.find-found.ensures) c.add.ensures
+    stored_new s.fingerprint lent _ (rw c.in-None.is at c.find.ensures) c.add.ensures

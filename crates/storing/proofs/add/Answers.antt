@@ -2,7 +2,7 @@
 use lib.Dec.{leb}
 use mathlib.Core.Path.{◌∙◌}
 use native.Mathlib.Omega.{arith}
-use Rattle.rules.specs.Key.{launch}
+use Rattle.keys.specs.Lent.{launch_of}
 use Rattle.storing.proofs.Adding.{Begun, add_added, add_refused, all_fits, key_fits, places_left, start_within}
 use Prim.Native.Nat.{◌*◌, ◌<◌}
 use lib.ListN.{length}
@@ -11,12 +11,12 @@ use Rattle.storing.proofs.add.Goals as goal
 
 -- what is found before the builder is called
 begun : (c : After-place_for-start) → let s = c.args in
-    Begun s.places (launch s.force_quotes s.program.now s.records.now s.text.now) s.index.now s.units.now
-    (leb s.places c.word_at-count.result) c.smaller-used.result c.key_size-key.result c.place_for-start.result
+    Begun s.places (launch_of s.lent.now) s.index.now s.units.now
+    (leb s.places c.word_at-count.result) c.min-used.result c.key_size-key.result c.place_for-start.result
 begun c =
     record {
       fulls = rw c.word_at-count.ensures;
-      useds = c.smaller-used.ensures ∙ rw c.word_at.ensures;
+      useds = c.min-used.ensures ∙ rw c.word_at.ensures;
       sizes = c.key_size-key.ensures;
       starts = c.place_for-start.ensures;
     }
