@@ -43,6 +43,7 @@ pub fn kept_run(rest: &[u16], quoted: bool) -> usize
 }
 
 // The same of a later argument, where backslashes mean something: up to a quote mark, a backslash and, outside quotes, a blank.
+// Two functions and not one with the unit: each promises the run that its own reader takes.
 pub fn plain_run(rest: &[u16], quoted: bool) -> usize
     ensures { result ≡ leading (is_taken quoted) rest.now }
 {

@@ -7,7 +7,7 @@ ghost use Rattle.entries.specs.Tallied.{Tallied, Walked};
 
 use crate::marks::{NUL, Sizes, measure_entry};
 use rules::{Entries, Refusal};
-use stores::put_number;
+use stores::put;
 
 // A block that starts with NUL has no entries, and a second NUL ends it.
 fn no_entries(block: &[u16]) -> Result<Entries, Refusal>
@@ -25,10 +25,10 @@ fn put_entry(spans: &mut [u32], i: usize, start: usize, entry: Sizes)
     requires { (i < 65536) × (start < 65536) × (entry.key < 65536) × (entry.value < 65536) }
     ensures { spans.new ≡ sets spans.old (4 * i) (start ∷ entry.key ∷ (start + entry.key + 1) ∷ entry.value ∷ []) }
 {
-    put_number(spans, 4 * i, start as u32);
-    put_number(spans, 4 * i + 1, entry.key as u32);
-    put_number(spans, 4 * i + 2, (start + entry.key + 1) as u32);
-    put_number(spans, 4 * i + 3, entry.value as u32);
+    put(spans, 4 * i, start as u32);
+    put(spans, 4 * i + 1, entry.key as u32);
+    put(spans, 4 * i + 2, (start + entry.key + 1) as u32);
+    put(spans, 4 * i + 3, entry.value as u32);
 }
 
 // The spans of the entries, as far as the table has places. Lent an empty table, it judges and counts.

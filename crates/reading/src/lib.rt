@@ -100,12 +100,14 @@ pub struct Span {
 pub fn span_of(text: &[u16], spans: &[u32], index: usize) -> Span
     ensures { result ≡ argument_span text.now spans.now index }
 {
+    // Two zeros and no Option: the document says so, and the C interface hands them out.
     let none = Span { start: 0, len: 0 };
-    if spans.len() / 2 <= index {
+    let (places, _) = spans.as_chunks::<2>();
+    let Some(&[start, len]) = places.get(index) else {
         return none;
-    }
-    let start = spans[2 * index] as usize;
-    let len = spans[2 * index + 1] as usize;
+    };
+    let start = start as usize;
+    let len = len as usize;
     if text.len() < start + len {
         none
     } else {

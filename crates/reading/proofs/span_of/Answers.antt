@@ -1,27 +1,33 @@
 -- `reading::span_of` meets its contract. Assumes nothing.
+use Prim.Native.Nat.{◌/◌, ◌<◌}
+use mathlib.Core.Path.{◌≡◌, ap, sym, ◌∙◌}
+use mathlib.Core.List.{List, []}
+use lib.ListN.{length, get_or}
 use borrow.Author.Tests.{le-ltb, lt-ltb}
 use native.Mathlib.Omega.{arith}
-use Prim.Native.Nat.{◌*◌, ◌+◌}
-use Rattle.reading.specs.Span.{argument_span}
+use Rattle.reading.proofs.Pairs.{pairs, listed, unlisted}
+use Rattle.reading.proofs.span_of.Goals.{In-Some}
 use Rattle.reading.proofs.span_of.Goals as goal
 
-pub returns-then-spans-index : goal.returns-then-spans-index
-unfolding argument_span
-returns-then-spans-index c = rw (le-ltb _ _ c.if-spans-index.true)
+-- the index is in the table
+inside : (c : In-Some) → c.args.index < length c.args.spans.now / 2
+inside c = omega (arith, c.in-Some.ensures.lookup.3.0, c.as_chunks.ensures.front_len)
 
-pub overflow_cast-start : goal.overflow_cast-start
-overflow_cast-start c = omega (arith, c.type_inv.spans (2 * c.args.index))
+-- and the pair is that of the index
+pair_is : (c : In-Some) → c.in-Some.field-0.now ≡ get_or (pairs c.args.spans.now) c.args.index []
+pair_is c = c.in-Some.ensures.lookup.3.1 [] ∙ ap (λ (l : List (List _)). get_or l c.args.index []) c.as_chunks.ensures.front
 
-pub overflow_cast-len : goal.overflow_cast-len
-overflow_cast-len c = omega (arith, c.type_inv.spans (2 * c.args.index + 1))
-
-pub overflow_add-start : goal.overflow_add-start
-overflow_add-start c = omega (arith, c.type_inv.spans (2 * c.args.index), c.type_inv.spans (2 * c.args.index + 1))
+pub returns-in_default : goal.returns-in_default
+returns-in_default c =
+    let l = c.in_default.ensures.lookup.3 in
+    sym (unlisted c.args.text.now c.args.spans.now c.args.index (omega (arith, c.as_chunks.ensures.front_len)))
 
 pub returns-then-text-start : goal.returns-then-text-start
-unfolding argument_span
-returns-then-text-start c = rw (lt-ltb _ _ c.if-spans-index.false, lt-ltb _ _ c.if-text-start.true)
+returns-then-text-start c =
+    let here = (goal.at.returns-then-text-start c).In-Some in
+    sym (listed c.args.text.now c.args.spans.now c.args.index _ (inside here) (pair_is here) ∙ rw (lt-ltb _ _ c.if-text-start.true))
 
 pub returns-else-text-start : goal.returns-else-text-start
-unfolding argument_span
-returns-else-text-start c = rw (lt-ltb _ _ c.if-spans-index.false, le-ltb _ _ c.if-text-start.false)
+returns-else-text-start c =
+    let here = (goal.at.returns-else-text-start c).In-Some in
+    sym (listed c.args.text.now c.args.spans.now c.args.index _ (inside here) (pair_is here) ∙ rw (le-ltb _ _ c.if-text-start.false))

@@ -8,7 +8,7 @@ returns c =
     let args = c.args in
     let entry = args.entry in
     entry_stored args.spans.now args.i args.start entry.key (args.start + entry.key + 1) entry.value
-    c.put_number.ensures
-    c.put_number-2.ensures
-    c.put_number-3.ensures
-    c.put_number-4.ensures
+    c.put.ensures
+    c.put-2.ensures
+    c.put-3.ensures
+    c.put-4.ensures
