@@ -12,13 +12,13 @@ use Rattle.std.proofs.Math.ListN.{length, length-append}
 use Rattle.std.proofs.lemmas.List.Edits.{sets}
 use Rattle.rules.specs.declared.Arg.{Arg}
 use Rattle.rules.specs.declared.Refusal.{Refusal}
+use Rattle.rules.specs.declared.Line.{Line}
 use Rattle.rules.specs.Choice.{pick, both, any}
 use Rattle.rules.specs.Unit.{is_nul}
 use Rattle.rules.specs.Outcome.{Outcome, done, refused, refuse, sound, wrong_if, fault_at, fault_from, first_fault, unless}
 use Rattle.rules.specs.Record.{Argument, argument_of, argument_finding}
 use Rattle.rules.specs.Building.{is_no_script}
 use Rattle.rules.specs.Answer.{refusal, refusal_said, wrote, built_said, Answered}
-use Rattle.laws.specs.Answer.{refusal_of, refusal_back, some_number}
 use Rattle.laws.specs.Store.{sets_append, sets_front}
 use Rattle.laws.specs.Placed.{Left, less_left}
 use Rattle.names.specs.Name.{name_of, head_of}
@@ -31,9 +31,11 @@ use Rattle.adding.specs.Counts.{counted_below, counted_whole, counted_twice, cou
 use Rattle.building.specs.declared.works.Pass.{Pass}
 use Rattle.building.specs.declared.works.Pass.TheVariants.{Records, Units, Measure, Write}
 use Rattle.building.specs.declared.works.Work.{Work}
+use Rattle.building.specs.declared.works.Turn.{Turn}
+use Rattle.building.specs.declared.works.Turn.TheVariants.{On, Done}
 use Rattle.building.specs.Line.{end_of, frame_units, row_of, whole_line, units_finding, line_limited, line_named}
 use Rattle.building.specs.Passes.{passed, passed_out}
-use Rattle.building.specs.Works.{answer_of, entered, stopped, progressed, opened, opened_out, ended, closed_in, closed_out, Turned}
+use Rattle.building.specs.Works.{entered, going, progressed, opened, opened_out, ended, closed_in, closed_out, Turned}
 use Rattle.building.specs.Rows.{most_of, row_most, whole_length}
 
 -- a line ends with its end
@@ -84,11 +86,11 @@ module _ (o : Outcome (List ℕ)) (lent text : List ℕ) (all : List Arg) (first
   Owes Measure s place left units out = OwesMeasure s left units out
   Owes Write s place left units out = OwesWrite s left units out
 
-  -- where building stands between two turns: it owes what its pass owes, or it has answered
+  -- where building stands between two turns: it owes what its pass owes
   pub record Stands (w : Work) (out : List ℕ) : Type 0 where
     pub counts : w.count ≡ length all
     pub within : w.at ≤ length all
-    pub due : pick w.going (Owes w.pass w.style (w.at + 1) (drop w.at all) w.units out) (Answered o (built_said (answer_of w)) first out)
+    pub due : Owes w.pass w.style (w.at + 1) (drop w.at all) w.units out
 
   -- a refusal is answered, and nothing has changed
   pub refused_here : (r : Refusal) {number place : ℕ} {out : List ℕ} → refusal_said r ≡ refusal number place → o ≡ refused number place → out ≡ first
@@ -176,11 +178,13 @@ module _ (o : Outcome (List ℕ)) (lent text : List ℕ) (all : List Arg) (first
 
   -- how many turns are left
   abbrev pub turns_left : Work → ℕ
-  turns_left w = pick w.going (rank w.pass * (length all + 1) - w.at) 0
+  turns_left w = rank w.pass * (length all + 1) - w.at
 
-  -- where building stands behind a turn at a record of a pass, with fewer turns left
-  abbrev Nearer : Pass → ℕ → Work → List ℕ → Type 0
-  Nearer pass at r out = Stands r out × (turns_left r < rank pass * (length all + 1) - at)
+  -- what a turn at a record of a pass comes to: building stands, with fewer turns left, or it has answered
+  abbrev pub Nearer : Pass → ℕ → Result Turn Refusal → List ℕ → Type 0
+  Nearer pass at (Ok (On w)) out = Stands w out × (turns_left w < rank pass * (length all + 1) - at)
+  Nearer pass at (Ok (Done line)) out = Answered o (built_said (Ok line)) first out
+  Nearer pass at (Err r) out = Answered o (built_said (Err r)) first out
 
   -- a record taken is a turn less
   take_less : (pass : Pass) (n at : ℕ) → at < n → rank pass * (n + 1) - (at + 1) < rank pass * (n + 1) - at
@@ -189,24 +193,17 @@ module _ (o : Outcome (List ℕ)) (lent text : List ℕ) (all : List Arg) (first
   take_less Measure n at h = omega arith
   take_less Write n at h = omega arith
 
-  -- and there was one
-  take_some : (pass : Pass) (n at : ℕ) → at ≤ n → 0 < rank pass * (n + 1) - at
-  take_some Records n at h = omega arith
-  take_some Units n at h = omega arith
-  take_some Measure n at h = omega arith
-  take_some Write n at h = omega arith
-
   -- a turn that takes a record
   takes : (w : Work) (a : Arg) (out : List ℕ) → w.count ≡ length all → w.at < length all → a ≡ get_or all w.at no_arg
       → Owes w.pass w.style (w.at + 1) (drop w.at all) w.units out
-      → Nearer w.pass w.at (progressed w (passed w.pass w.style text w.units (w.at + 1) a)) (passed_out w.pass w.style text w.units a out)
+      → Nearer w.pass w.at (going (progressed w (passed w.pass w.style text w.units (w.at + 1) a))) (passed_out w.pass w.style text w.units a out)
   takes w a out counts l e h =
       let left : drop w.at all ≡ a ∷ drop (w.at + 1) all = rw (e, add-one w.at) (drop-cons all w.at no_arg l) in
       go (goes w.pass w.style (w.at + 1) a (drop (w.at + 1) all) w.units out (rw left at h))
     where
-      go : {p : Result ℕ Refusal} {out' : List ℕ} → Going w.pass w.style (w.at + 1 + 1) (drop (w.at + 1) all) out' p → Nearer w.pass w.at (progressed w p) out'
+      go : {p : Result ℕ Refusal} {out' : List ℕ} → Going w.pass w.style (w.at + 1 + 1) (drop (w.at + 1) all) out' p → Nearer w.pass w.at (going (progressed w p)) out'
       go (on h') = (record { counts = counts; within = omega (arith, l); due = h' }, take_less w.pass (length all) w.at l)
-      go (over {r} h') = (record { counts = counts; within = omega (arith, l); due = rw (some_number r, refusal_back r) h' }, take_some w.pass (length all) w.at (omega (arith, l)))
+      go (over h') = h'
 
   -- ---- the stage behind a pass
 
@@ -253,15 +250,15 @@ module _ (o : Outcome (List ℕ)) (lent text : List ℕ) (all : List Arg) (first
 
     -- 7, then 5 for the name; then the units pass
     close_records : {place : ℕ} → OwesRecords s place [] out → Nearer Records w.at (closed_in Records lent (length out) w) out
-    unfolding fault_from line_named refusal_of
+    unfolding fault_from line_named
     close_records h = go (both s.batch (is_no_script lent)) (any is_nul (name_of s.batch lent)) h.owes
       where
         go : (b c : Bool)
             → o ≡ refuse 7 b (refuse 5 c (unless (first_fault (units_finding s.batch) (args_of all)) (line_limited s lent (args_of all) (length first))))
             → Nearer Records w.at
-            (pick b (stopped w Refusal.Script) (pick c (stopped w (Refusal.Nul 0)) (entered w Units (frame_units s.batch (name_of s.batch lent))))) out
-        go true c e = (record { counts = counts; within = within; due = refused_here Refusal.Script refl e h.kept }, take_some Records (length all) w.at within)
-        go false true e = (record { counts = counts; within = within; due = refused_here (Refusal.Nul 0) refl e h.kept }, take_some Records (length all) w.at within)
+            (going (pick b (Err Refusal.Script) (pick c (Err (Refusal.Nul 0)) (Ok (entered w Units (frame_units s.batch (name_of s.batch lent))))))) out
+        go true c e = refused_here Refusal.Script refl e h.kept
+        go false true e = refused_here (Refusal.Nul 0) refl e h.kept
         go false false e = (record { counts = counts; within = omega arith; due = record { owes = e; covers = frame_covers s; kept = h.kept } }, omega arith)
 
     -- into writing a line that fits
@@ -288,12 +285,12 @@ module _ (o : Outcome (List ℕ)) (lent text : List ℕ) (all : List Arg) (first
     unfolding fault_from
     close_units h = go (leb w.units (limit_of s.batch)) (leb w.units (length out)) refl refl
       where
-        measured : Nearer Units w.at (entered w Measure (frame_units s.batch (name_of s.batch lent))) out
+        measured : Nearer Units w.at (Ok (On (entered w Measure (frame_units s.batch (name_of s.batch lent))))) out
         measured =
             (record { counts = counts; within = omega arith; due = record { owes = h.owes; counts = frame_counts s; capped = frame_capped s; kept = h.kept } }, omega arith)
 
         go : (b c : Bool) → leb w.units (limit_of s.batch) ≡ b → leb w.units (length out) ≡ c
-            → Nearer Units w.at (pick (both b c) (opened lent w) (entered w Measure (frame_units s.batch (name_of s.batch lent)))) (pick (both b c) (opened_out lent w out) out)
+            → Nearer Units w.at (Ok (On (pick (both b c) (opened lent w) (entered w Measure (frame_units s.batch (name_of s.batch lent)))))) (pick (both b c) (opened_out lent w out) out)
         go true true p q =
             let l = leb-true w.units (limit_of s.batch) p in
             let r = leb-true w.units (length out) q in
@@ -305,7 +302,6 @@ module _ (o : Outcome (List ℕ)) (lent text : List ℕ) (all : List Arg) (first
 
     -- 2, then 4; else into writing
     close_measure : OwesMeasure s [] w.units out → Nearer Measure w.at (closed_in Measure lent (length out) w) (closed_out Measure lent w out)
-    unfolding refusal_of
     close_measure h = go (dec_le w.units (limit_of s.batch))
       where
         counted_all : w.units ≡ counted 0 (length (whole s))
@@ -319,8 +315,7 @@ module _ (o : Outcome (List ℕ)) (lent text : List ℕ) (all : List Arg) (first
         fitting l e (no n) =
             let r = lt_of_not-le n in
             let d = refused_here Refusal.Room refl (h.owes ∙ line_wide s (omega arith) (omega (arith, same))) h.kept in
-            rw (le-ltb (limit_of s.batch) w.units l, lt-ltb (length out) w.units r)
-            (record { counts = counts; within = within; due = d }, take_some Measure (length all) w.at within)
+            rw (le-ltb (limit_of s.batch) w.units l, lt-ltb (length out) w.units r) d
         fitting l e (yes r) =
             rw (le-ltb (limit_of s.batch) w.units l, le-ltb (length out) w.units r)
             (opens h.kept h.owes (omega arith) (omega (arith, same)), omega arith)
@@ -329,7 +324,7 @@ module _ (o : Outcome (List ℕ)) (lent text : List ℕ) (all : List Arg) (first
         go (no n) =
             let l = lt_of_not-le n in
             let d = refused_here Refusal.Length refl (h.owes ∙ line_long s (counted_past _ _ w.units counted_all l)) h.kept in
-            rw (lt-ltb (limit_of s.batch) w.units l) (record { counts = counts; within = within; due = d }, take_some Measure (length all) w.at within)
+            rw (lt-ltb (limit_of s.batch) w.units l) d
         go (yes l) = fitting l (counted_is (limit_of s.batch) _ w.units counted_all l (cap_covers s.batch)) (dec_le w.units (length out))
 
     -- the line is ended
@@ -338,9 +333,7 @@ module _ (o : Outcome (List ℕ)) (lent text : List ℕ) (all : List Arg) (first
         let k = h.rest.counts in
         let n = h.short in
         let e : ended s.batch w.units ≡ length (whole s) = ended_is s.batch w.units (omega arith) ∙ omega arith in
-        let d : Answered o (wrote (ended s.batch w.units)) first (sets out w.units (end_of s.batch))
-        = record { says = rw (h.owes, e); leaves = rw h.owes (h.rest.stores ∙ sets_front first (whole s) h.fits) } in
-        (record { counts = counts; within = within; due = d }, take_some Write (length all) w.at within)
+        record { says = rw (h.owes, e); leaves = rw h.owes (h.rest.stores ∙ sets_front first (whole s) h.fits) }
 
     -- any stage
     closes : (pass : Pass) (place : ℕ) → Owes pass s place [] w.units out → Nearer pass w.at (closed_in pass lent (length out) w) (closed_out pass lent w out)
@@ -351,27 +344,22 @@ module _ (o : Outcome (List ℕ)) (lent text : List ℕ) (all : List Arg) (first
 
   -- ---- any turn
 
-  -- a turn leaves building where it stands, with fewer turns left
-  pub turns : {w r : Work} {a : Arg} {before after : List ℕ} → Stands w before → w.going ≡ true → (w.at < length all → a ≡ get_or all w.at no_arg)
-      → Turned lent text a w r before after → Stands r after × (turns_left r < turns_left w)
-  turns {w} {r} {a} {before} {after} s g e t = go (dec_le (length all) w.at)
+  -- a turn leaves building where it stands, with fewer turns left, or it has answered
+  pub turns : {w : Work} {r : Result Turn Refusal} {a : Arg} {before after : List ℕ} → Stands w before → (w.at < length all → a ≡ get_or all w.at no_arg)
+      → Turned lent text a w r before after → Nearer w.pass w.at r after
+  turns {w} {r} {a} {before} {after} s e t = go (dec_le (length all) w.at)
     where
-      owed : Owes w.pass w.style (w.at + 1) (drop w.at all) w.units before
-      owed = rw g at s.due
-
-      left : turns_left w ≡ rank w.pass * (length all + 1) - w.at
-      left = rw g
-
-      go : Dec (length all ≤ w.at) → Stands r after × (turns_left r < turns_left w)
+      go : Dec (length all ≤ w.at) → Nearer w.pass w.at r after
       go (no n) =
           let l = lt_of_not-le n in
           let test = lt-ltb w.at w.count (rw s.counts l) in
-          rw (rw test at t.works, rw test at t.stores, left) (takes w a before s.counts l (e l) owed)
+          rw (rw test at t.works, rw test at t.stores) (takes w a before s.counts l (e l) s.due)
       go (yes l) =
           let test = le-ltb w.at w.count (rw s.counts l) in
-          rw (rw test at t.works, rw test at t.stores, left)
-          (closes w before s.counts s.within w.pass (w.at + 1) (rw (drop_of_length-le all l) at owed))
+          rw (rw test at t.works, rw test at t.stores)
+          (closes w before s.counts s.within w.pass (w.at + 1) (rw (drop_of_length-le all l) at s.due))
 
   -- behind the last turn building has answered
-  pub stands_last : {w : Work} {out : List ℕ} → Stands w out → w.going ≡ false → Answered o (built_said (answer_of w)) first out
-  stands_last s g = rw g at s.due
+  pub stands_last : {w : Work} {line : Line} {a : Arg} {before after : List ℕ} → Stands w before → (w.at < length all → a ≡ get_or all w.at no_arg)
+      → Turned lent text a w (Ok (Done line)) before after → Answered o (built_said (Ok line)) first after
+  stands_last s e t = turns s e t

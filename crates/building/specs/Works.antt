@@ -1,19 +1,19 @@
 -- Building a line as a state and its turns: the records of each pass, and the stage behind it. Assumes nothing.
-use Rattle.std.specs.Prelude.{ℕ, ◌+◌, ◌≡◌, Bool, true, false, List, eqb, leb, ltb, length, Result, Ok, Err, ⊤}
+use Rattle.std.specs.Prelude.{ℕ, ◌+◌, ◌≡◌, Bool, true, false, List, leb, ltb, length, Result, Ok, Err}
 use Rattle.std.proofs.lemmas.List.Edits.{sets}
 use Rattle.rules.specs.declared.Arg.{Arg}
 use Rattle.rules.specs.declared.Refusal.{Refusal}
 use Rattle.rules.specs.declared.Line.{Line}
-use Rattle.rules.specs.Answer.{refusal_number, refusal_place}
 use Rattle.rules.specs.Choice.{pick, both, any}
 use Rattle.rules.specs.Unit.{is_nul}
 use Rattle.rules.specs.Building.{is_no_script}
-use Rattle.laws.specs.Answer.{refusal_of}
 use Rattle.names.specs.Name.{name_of, head_of}
 use Rattle.adding.specs.Limits.{limit_of, counted}
 use Rattle.building.specs.declared.works.Pass.{Pass}
 use Rattle.building.specs.declared.works.Pass.TheVariants.{Records, Units, Measure, Write}
 use Rattle.building.specs.declared.works.Work.{Work}
+use Rattle.building.specs.declared.works.Turn.{Turn}
+use Rattle.building.specs.declared.works.Turn.TheVariants.{On, Done}
 use Rattle.building.specs.Line.{end_of, frame_units}
 use Rattle.building.specs.Passes.{passed, passed_out}
 
@@ -21,43 +21,30 @@ use Rattle.building.specs.Passes.{passed, passed_out}
 
 -- at a record of the record pass
 abbrev pub begun_at : Bool → Bool → ℕ → ℕ → Work
-begun_at batch force count at =
-    record { count = count; units = 0; at = at; place = 0; number = 0; style = record { batch = batch; force = force }; pass = Records; going = true }
+begun_at batch force count at = record { count = count; units = 0; at = at; style = record { batch = batch; force = force }; pass = Records }
 
 -- at the first record of another pass
 abbrev pub entered : Work → Pass → ℕ → Work
-entered w pass units = record { count = w.count; units = units; at = 0; place = 0; number = 0; style = w.style; pass = pass; going = true }
-
--- refused
-abbrev pub stopped : Work → Refusal → Work
-stopped w r = record { count = w.count; units = w.units; at = w.at; place = refusal_place r; number = refusal_number r; style = w.style; pass = w.pass; going = false }
-
--- a line of so many units
-abbrev pub finished : Work → ℕ → Work
-finished w units = record { count = w.count; units = units; at = w.at; place = 0; number = 0; style = w.style; pass = w.pass; going = false }
+entered w pass units = record { count = w.count; units = units; at = 0; style = w.style; pass = pass }
 
 -- at the next record, or refused
-abbrev pub progressed : Work → Result ℕ Refusal → Work
-progressed w (Ok units) = record { count = w.count; units = units; at = w.at + 1; place = 0; number = 0; style = w.style; pass = w.pass; going = true }
-progressed w (Err r) = stopped w r
+abbrev pub progressed : Work → Result ℕ Refusal → Result Work Refusal
+progressed w (Ok units) = Ok (record { count = w.count; units = units; at = w.at + 1; style = w.style; pass = w.pass })
+progressed w (Err r) = Err r
 
--- behind the record pass, where the records are judged already
-abbrev pub begun : Bool → Bool → ℕ → Result ⊤ Refusal → Work
-begun batch force count (Ok _) = begun_at batch force count count
-begun batch force count (Err r) = stopped (begun_at batch force count count) r
-
--- the answer of a state that does not go on
-abbrev pub answer_of : Work → Result Line Refusal
-answer_of w = pick (eqb w.number 0) (Ok (record { units = w.units })) (Err (refusal_of w.number w.place))
+-- a turn behind which building goes on, or refused
+abbrev pub going : Result Work Refusal → Result Turn Refusal
+going (Ok w) = Ok (On w)
+going (Err r) = Err r
 
 -- ---- the stage behind a pass
 
 -- behind the record pass: 7, then 5 for the name; then the units pass
-abbrev pub after_records : List ℕ → Work → Work
+abbrev pub after_records : List ℕ → Work → Result Work Refusal
 after_records lent w =
     let name = name_of w.style.batch lent in
-    let nul = pick (any is_nul name) (stopped w (Refusal.Nul 0)) (entered w Units (frame_units w.style.batch name)) in
-    pick (both w.style.batch (is_no_script lent)) (stopped w Refusal.Script) nul
+    let nul = pick (any is_nul name) (Err (Refusal.Nul 0)) (Ok (entered w Units (frame_units w.style.batch name))) in
+    pick (both w.style.batch (is_no_script lent)) (Err Refusal.Script) nul
 
 -- into writing
 abbrev pub opened : List ℕ → Work → Work
@@ -86,8 +73,8 @@ abbrev pub fitted : {A : Type 0} → Bool → ℕ → ℕ → A → A → A → 
 fitted batch room units long wide fits = pick (ltb (limit_of batch) units) long (pick (ltb room units) wide fits)
 
 -- behind measuring: 2, then 4; else into writing
-abbrev pub after_measuring : List ℕ → ℕ → Work → Work
-after_measuring lent room w = fitted w.style.batch room w.units (stopped w Refusal.Length) (stopped w Refusal.Room) (opened lent w)
+abbrev pub after_measuring : List ℕ → ℕ → Work → Result Work Refusal
+after_measuring lent room w = fitted w.style.batch room w.units (Err Refusal.Length) (Err Refusal.Room) (Ok (opened lent w))
 
 -- the output then
 abbrev pub after_measuring_out : List ℕ → Work → List ℕ → List ℕ
@@ -99,31 +86,31 @@ ended true units = counted units 1
 ended false units = units
 
 -- behind writing: the line is ended
-abbrev pub after_writing : Work → Work
-after_writing w = finished w (ended w.style.batch w.units)
+abbrev pub after_writing : Work → Line
+after_writing w = record { units = ended w.style.batch w.units }
 
 -- the output then
 abbrev pub after_writing_out : Work → List ℕ → List ℕ
 after_writing_out w out = sets out w.units (end_of w.style.batch)
 
 -- what a stage promises that stores
-pub record Staged (work : Work) (output : List ℕ) (r : Work) (after : List ℕ) : Type 0 where
+pub record Staged {A : Type 0} (work : A) (output : List ℕ) (r : A) (after : List ℕ) : Type 0 where
   pub works : r ≡ work
   pub stores : after ≡ output
 
 -- ---- a turn
 
 -- what taking a record promises
-pub record TakenRecord (text : List ℕ) (a : Arg) (w r : Work) (before after : List ℕ) : Type 0 where
+pub record TakenRecord (text : List ℕ) (a : Arg) (w : Work) (r : Result Work Refusal) (before after : List ℕ) : Type 0 where
   pub works : r ≡ progressed w (passed w.pass w.style text w.units (w.at + 1) a)
   pub stores : after ≡ passed_out w.pass w.style text w.units a before
 
 -- the stage behind a pass
-abbrev pub closed_in : Pass → List ℕ → ℕ → Work → Work
-closed_in Records lent room w = after_records lent w
-closed_in Units lent room w = after_units lent room w
-closed_in Measure lent room w = after_measuring lent room w
-closed_in Write lent room w = after_writing w
+abbrev pub closed_in : Pass → List ℕ → ℕ → Work → Result Turn Refusal
+closed_in Records lent room w = going (after_records lent w)
+closed_in Units lent room w = Ok (On (after_units lent room w))
+closed_in Measure lent room w = going (after_measuring lent room w)
+closed_in Write lent room w = Ok (Done (after_writing w))
 
 -- the output then
 abbrev pub closed_out : Pass → List ℕ → Work → List ℕ → List ℕ
@@ -133,11 +120,11 @@ closed_out Measure lent w out = after_measuring_out lent w out
 closed_out Write lent w out = after_writing_out w out
 
 -- what closing a pass promises
-pub record Closed (lent : List ℕ) (w r : Work) (before after : List ℕ) : Type 0 where
+pub record Closed (lent : List ℕ) (w : Work) (r : Result Turn Refusal) (before after : List ℕ) : Type 0 where
   pub works : r ≡ closed_in w.pass lent (length before) w
   pub stores : after ≡ closed_out w.pass lent w before
 
 -- what a turn promises: it takes a record where one is left, else it closes the pass
-pub record Turned (lent text : List ℕ) (a : Arg) (w r : Work) (before after : List ℕ) : Type 0 where
-  pub works : r ≡ pick (ltb w.at w.count) (progressed w (passed w.pass w.style text w.units (w.at + 1) a)) (closed_in w.pass lent (length before) w)
+pub record Turned (lent text : List ℕ) (a : Arg) (w : Work) (r : Result Turn Refusal) (before after : List ℕ) : Type 0 where
+  pub works : r ≡ pick (ltb w.at w.count) (going (progressed w (passed w.pass w.style text w.units (w.at + 1) a))) (closed_in w.pass lent (length before) w)
   pub stores : after ≡ pick (ltb w.at w.count) (passed_out w.pass w.style text w.units a before) (closed_out w.pass lent w before)

@@ -3,6 +3,7 @@ ghost use Rattle.std.specs.Prelude.{length};
 ghost use Rattle.rules.specs.Answer.{Answered, built_said};
 ghost use Rattle.rules.specs.Building.{either_line};
 
+use crate::works::Turn;
 use crate::{turns, works};
 use rules::{Line, Refusal};
 use units::classes::Classes;
@@ -19,11 +20,13 @@ pub fn build(
     ensures { Answered (either_line batch force_quotes lent.now records.now text.now (length out.old)) (built_said result) out.old out.new }
 {
     let classes = Classes::new();
-    let judged = records::first_fault(text, records);
-    let mut work = works::begin_judged(batch, force_quotes, records.len() / 3, judged);
-    while work.going {
+    records::first_fault(text, records)?;
+    let mut work = works::begin_judged(batch, force_quotes, records.len() / 3);
+    loop {
         let arg = records::record_at(records, work.at);
-        work = turns::turn(work, arg, &classes, lent, text, out);
+        match turns::turn(work, arg, &classes, lent, text, out)? {
+            Turn::On(next) => work = next,
+            Turn::Done(line) => return Ok(line),
+        }
     }
-    works::answer_of(work)
 }

@@ -6,7 +6,7 @@ ghost use Rattle.building.specs.Works.{after_records, Staged, surely_fits, after
 use crate::works;
 use crate::works::{Pass, Work};
 use adding::limits;
-use rules::Refusal;
+use rules::{Line, Refusal};
 
 // The last quote of a batch line.
 const QUOTE: u16 = 34;
@@ -26,18 +26,18 @@ fn frame_units(batch: bool, name: &[u16]) -> usize
 }
 
 // Behind the record pass: 7, then 5 for program or script. The next one begins with what stands round the arguments.
-pub fn after_records(work: Work, lent: &[u16]) -> Work
+pub fn after_records(work: Work, lent: &[u16]) -> Result<Work, Refusal>
     ensures { result ≡ after_records lent.now work }
 {
     let batch = work.style.batch;
     if names::is_no_script(batch, lent) {
-        return works::stop(work, Refusal::Script);
+        return Err(Refusal::Script);
     }
     let name = names::name_of(batch, lent);
     if scans::has_nul(name) {
-        return works::stop(work, Refusal::Nul(0));
+        return Err(Refusal::Nul(0));
     }
-    works::enter(work, Pass::Units, frame_units(batch, name))
+    Ok(works::enter(work, Pass::Units, frame_units(batch, name)))
 }
 
 // Into writing: what stands before the arguments. Nothing is stored before this.
@@ -69,27 +69,29 @@ pub fn after_units(work: Work, lent: &[u16], out: &mut [u16]) -> Work
 }
 
 // Behind measuring: 2, then 4, both on the whole line.
-pub fn after_measuring(work: Work, lent: &[u16], out: &mut [u16]) -> Work
+pub fn after_measuring(work: Work, lent: &[u16], out: &mut [u16]) -> Result<Work, Refusal>
     ensures { Staged (after_measuring lent.now (length out.old) work) (after_measuring_out lent.now work out.old) result out.new }
 {
     if limits::limit_of(work.style.batch) < work.units {
-        return works::stop(work, Refusal::Length);
+        return Err(Refusal::Length);
     }
     if out.len() < work.units {
-        return works::stop(work, Refusal::Room);
+        return Err(Refusal::Room);
     }
-    open(work, lent, out)
+    Ok(open(work, lent, out))
 }
 
 // Behind writing: the last quote of a batch line.
-pub fn after_writing(work: Work, out: &mut [u16]) -> Work
+pub fn after_writing(work: Work, out: &mut [u16]) -> Line
     ensures { Staged (after_writing work) (after_writing_out work out.old) result out.new }
 {
     let units = work.units;
     if work.style.batch {
         stores::put(out, units, QUOTE);
-        works::finish(work, limits::count_on(units, 1))
+        Line {
+            units: limits::count_on(units, 1),
+        }
     } else {
-        works::finish(work, units)
+        Line { units }
     }
 }

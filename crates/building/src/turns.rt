@@ -3,10 +3,10 @@ ghost use Rattle.std.specs.Prelude.{◌≡◌, ◌<◌};
 ghost use Rattle.building.specs.Passes.{lent_units};
 ghost use Rattle.building.specs.Works.{TakenRecord, Closed, Turned};
 
-use crate::works::{Pass, Work};
+use crate::works::{Pass, Turn, Work};
 use crate::{stages, works};
 use adding::{judging, writing};
-use rules::Arg;
+use rules::{Arg, Refusal};
 use units::classes::Classes;
 
 // How much of an output of so many units a pass is lent: measuring is lent nothing.
@@ -20,7 +20,7 @@ fn lent_units(pass: Pass, room: usize) -> usize
 }
 
 // The next record of the pass.
-fn take(work: Work, arg: Arg, classes: &Classes, text: &[u16], out: &mut [u16]) -> Work
+fn take(work: Work, arg: Arg, classes: &Classes, text: &[u16], out: &mut [u16]) -> Result<Work, Refusal>
     requires { work.at < work.count }
     ensures { TakenRecord text.now arg work result out.old out.new }
 {
@@ -43,14 +43,14 @@ fn take(work: Work, arg: Arg, classes: &Classes, text: &[u16], out: &mut [u16]) 
 }
 
 // Behind the last record of a pass: its stage, and into the next pass.
-fn close(work: Work, lent: &[u16], out: &mut [u16]) -> Work
+fn close(work: Work, lent: &[u16], out: &mut [u16]) -> Result<Turn, Refusal>
     ensures { Closed lent.now work result out.old out.new }
 {
     match work.pass {
-        Pass::Records => stages::after_records(work, lent),
-        Pass::Units => stages::after_units(work, lent, out),
-        Pass::Measure => stages::after_measuring(work, lent, out),
-        Pass::Write => stages::after_writing(work, out),
+        Pass::Records => Ok(Turn::On(stages::after_records(work, lent)?)),
+        Pass::Units => Ok(Turn::On(stages::after_units(work, lent, out))),
+        Pass::Measure => Ok(Turn::On(stages::after_measuring(work, lent, out)?)),
+        Pass::Write => Ok(Turn::Done(stages::after_writing(work, out))),
     }
 }
 
@@ -62,11 +62,12 @@ pub fn turn(
     lent: &[u16],
     text: &[u16],
     out: &mut [u16],
-) -> Work
+) -> Result<Turn, Refusal>
     ensures { Turned lent.now text.now arg work result out.old out.new }
 {
     if work.at < work.count {
-        return take(work, arg, classes, text, out);
+        Ok(Turn::On(take(work, arg, classes, text, out)?))
+    } else {
+        close(work, lent, out)
     }
-    close(work, lent, out)
 }

@@ -6,6 +6,7 @@ ghost use Rattle.rules.specs.Answer.{Answered, built_said};
 ghost use Rattle.rules.specs.Building.{command_line, batch_command_line, either_line};
 ghost use Rattle.rules.specs.Record.{flat_of};
 
+use building::works::Turn;
 use building::{turns, works};
 use rules::{Arg, Line, Refusal};
 use units::classes::Classes;
@@ -23,19 +24,21 @@ fn make_line_of(
 {
     let classes = Classes::new();
     let mut work = works::begin(batch, force_quotes, args.len());
-    while work.going {
-        let at = work.at;
+    loop {
         let mut arg = Arg {
             kind: 0,
             start: 0,
             len: 0,
         };
+        let at = work.at;
         if at < args.len() {
             arg = args[at];
         }
-        work = turns::turn(work, arg, &classes, lent, text, out);
+        match turns::turn(work, arg, &classes, lent, text, out)? {
+            Turn::On(next) => work = next,
+            Turn::Done(line) => return Ok(line),
+        }
     }
-    works::answer_of(work)
 }
 
 // Builds an ordinary command line from a slice of records. In the Rust: `make_command_line`.

@@ -1,23 +1,36 @@
 -- `building::lines::build` meets its contract. Assumes nothing.
-use mathlib.Core.Path.{refl}
-use Rattle.building.specs.Starts.{stands_judged}
+use Rattle.std.proofs.lemmas.Result.{err_from_is_err_and}
+use mathlib.Core.Path.{refl, sym}
+use Rattle.building.specs.Starts.{stands_judged, stands_refused}
 use Rattle.building.specs.Turns.{stands_last, turns}
 use borrow.Author.Rules.{rules}
 use Rattle.building.proofs.lines.build.Goals as goal
 
-pub loop-work-init : goal.loop-work-init
-loop-work-init c =
+pub returns-in_err-first_fault : goal.returns-in_err-first_fault
+returns-in_err-first_fault c =
     let a = c.args in
-    let s = stands_judged a.batch a.force_quotes a.lent.now a.records.now a.text.now a.out.now c.first_fault-judged.result c.first_fault-judged.ensures in
+    let p = err_from_is_err_and c.from_residual.result c.from_residual.ensures.1 in
+    rw (p.1, p.2) (stands_refused a.batch a.force_quotes a.lent.now a.records.now a.text.now a.out.now _ c.in_err-first_fault.ensures)
+
+pub loop-next-init : goal.loop-next-init
+loop-next-init c =
+    let a = c.args in
+    let s = stands_judged a.batch a.force_quotes a.lent.now a.records.now a.text.now a.out.now (sym c.in_ok-first_fault.ensures) in
     (rw c.begin_judged-work.ensures s, refl)
 
-pub loop-work-smaller : goal.loop-work-smaller
-loop-work-smaller c =
-    (turns _ _ _ _ _ c.loop-work.invariant.0 c.loop-work-test.true (λ h. c.record_at-arg.ensures) c.turn-work.ensures).1
+pub loop-next-smaller : goal.loop-next-smaller
+loop-next-smaller c =
+    (turns _ _ _ _ _ c.loop-next.invariant.0 (λ h. c.record_at-arg.ensures) (rw c.in-On.is at c.in_ok-next.ensures)).1
 
-pub loop-work-preserved : goal.loop-work-preserved
-loop-work-preserved c =
-    ((turns _ _ _ _ _ c.loop-work.invariant.0 c.loop-work-test.true (λ h. c.record_at-arg.ensures) c.turn-work.ensures).0, search rules)
+pub loop-next-preserved : goal.loop-next-preserved
+loop-next-preserved c =
+    ((turns _ _ _ _ _ c.loop-next.invariant.0 (λ h. c.record_at-arg.ensures) (rw c.in-On.is at c.in_ok-next.ensures)).0, search rules)
 
-pub returns : goal.returns
-returns c = rw c.answer_of.ensures (stands_last _ _ _ _ _ c.loop-work.invariant.0 c.loop-work-test.false)
+pub returns-in_err-next : goal.returns-in_err-next
+returns-in_err-next c =
+    let p = err_from_is_err_and c.from_residual-in_err-next.result c.from_residual-in_err-next.ensures.1 in
+    rw (p.1, p.2) (turns _ _ _ _ _ c.loop-next.invariant.0 (λ h. c.record_at-arg.ensures) c.in_err-next.ensures)
+
+pub returns-in-Done : goal.returns-in-Done
+returns-in-Done c =
+    stands_last _ _ _ _ _ c.loop-next.invariant.0 (λ h. c.record_at-arg.ensures) (rw c.in-Done.is at c.in_ok-next.ensures)

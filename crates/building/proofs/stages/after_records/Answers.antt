@@ -2,12 +2,11 @@
 use Rattle.building.proofs.stages.after_records.Goals as goal
 
 pub returns-then-is_no_script : goal.returns-then-is_no_script
-returns-then-is_no_script c = rw (← c.is_no_script.ensures, c.if-is_no_script.true) c.stop.ensures
+returns-then-is_no_script c = rw (← c.is_no_script.ensures, c.if-is_no_script.true)
 
 pub returns-then-has_nul : goal.returns-then-has_nul
-returns-then-has_nul c =
-    rw (← c.is_no_script.ensures, c.if-is_no_script.false, ← c.name_of-name.ensures, ← c.has_nul.ensures, c.if-has_nul.true) c.stop-then-has_nul.ensures
+returns-then-has_nul c = rw (← c.is_no_script.ensures, c.if-is_no_script.false, ← c.name_of-name.ensures, ← c.has_nul.ensures, c.if-has_nul.true)
 
 pub returns : goal.returns
 returns c =
-    rw (← c.is_no_script.ensures, c.if-is_no_script.false, ← c.name_of-name.ensures, ← c.has_nul.ensures, c.if-has_nul.false, ← c.frame_units.ensures) c.enter.ensures
+    rw (← c.is_no_script.ensures, c.if-is_no_script.false, ← c.name_of-name.ensures, ← c.has_nul.ensures, c.if-has_nul.false, c.enter.ensures, ← c.frame_units.ensures)

@@ -7,7 +7,7 @@ use Rattle.building.proofs.stages.after_writing.Goals as goal
 pub returns-then-work : goal.returns-then-work
 returns-then-work c =
     let a = c.args in
-    ended_in a.work a.out.now true c.if-work.true (rw (← c.count_on.ensures) c.finish.ensures) c.put.ensures
+    ended_in a.work a.out.now true c.if-work.true c.count_on.ensures c.put.ensures
 
 pub returns-else-work : goal.returns-else-work
-returns-else-work c = ended_in c.args.work c.args.out.now false c.if-work.false c.finish-else-work.ensures refl
+returns-else-work c = ended_in c.args.work c.args.out.now false c.if-work.false refl refl
