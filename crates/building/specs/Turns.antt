@@ -18,7 +18,7 @@ use Rattle.rules.specs.Unit.{is_nul}
 use Rattle.rules.specs.Outcome.{Outcome, done, refused, refuse, sound, wrong_if, fault_at, fault_from, first_fault, unless}
 use Rattle.rules.specs.Record.{Argument, argument_of, argument_finding}
 use Rattle.rules.specs.Building.{is_no_script}
-use Rattle.rules.specs.Answer.{refusal, refusal_said, wrote, built_said, Answered}
+use Rattle.rules.specs.Answer.{refusal, refusal_said, built_said, Answered}
 use Rattle.laws.specs.Store.{sets_append, sets_front}
 use Rattle.laws.specs.Placed.{Left, less_left}
 use Rattle.names.specs.Name.{name_of, head_of}

@@ -20,7 +20,13 @@ fn lent_units(pass: Pass, room: usize) -> usize
 }
 
 // The next record of the pass.
-fn take(work: Work, arg: Arg, classes: &Classes, text: &[u16], out: &mut [u16]) -> Result<Work, Refusal>
+fn take(
+    work: Work,
+    arg: Arg,
+    classes: &Classes,
+    text: &[u16],
+    out: &mut [u16],
+) -> Result<Work, Refusal>
     requires { work.at < work.count }
     ensures { TakenRecord text.now arg work result out.old out.new }
 {

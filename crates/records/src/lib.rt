@@ -15,16 +15,19 @@ pub fn is_wrong(text: &[u16], arg: Arg) -> bool
     kinds::is_no_kind(arg.kind) || text.len() < arg.start as usize + arg.len as usize
 }
 
+// What stands for a record where a list has none.
+pub const NO_ARG: Arg = Arg {
+    kind: 0,
+    start: 0,
+    len: 0,
+};
+
 // The record of an index, or one of zeros where the list has none.
 pub fn record_at(records: &[u32], index: usize) -> Arg
     ensures { result ≡ get_or (records_of records.now) index no_arg }
 {
     if records.len() / 3 <= index {
-        return Arg {
-            kind: 0,
-            start: 0,
-            len: 0,
-        };
+        return NO_ARG;
     }
     let at = index * 3;
     Arg {

@@ -1,15 +1,27 @@
 // Command lines from a slice of records: the entries over `&[Arg]`, whose answers are those of the flat entries on the records' numbers.
 #![tactic(auto)]
 
-ghost use Rattle.std.specs.Prelude.{length};
+ghost use Rattle.std.specs.Prelude.{◌≡◌, length, get_or};
 ghost use Rattle.rules.specs.Answer.{Answered, built_said};
 ghost use Rattle.rules.specs.Building.{command_line, batch_command_line, either_line};
 ghost use Rattle.rules.specs.Record.{flat_of};
+ghost use Rattle.records.specs.Records.{no_arg};
 
 use building::works::Turn;
 use building::{turns, works};
+use records::NO_ARG;
 use rules::{Arg, Line, Refusal};
 use units::classes::Classes;
+
+// The record of an index, or one of zeros where the slice has none.
+fn record_at(args: &[Arg], index: usize) -> Arg
+    ensures { result ≡ get_or args.now index no_arg }
+{
+    match args.get(index) {
+        Some(&arg) => arg,
+        None => NO_ARG,
+    }
+}
 
 // Builds a line of either kind. The one loop of this crate: each turn hands on the state by value.
 fn make_line_of(
@@ -25,15 +37,7 @@ fn make_line_of(
     let classes = Classes::new();
     let mut work = works::begin(batch, force_quotes, args.len());
     loop {
-        let mut arg = Arg {
-            kind: 0,
-            start: 0,
-            len: 0,
-        };
-        let at = work.at;
-        if at < args.len() {
-            arg = args[at];
-        }
+        let arg = record_at(args, work.at);
         match turns::turn(work, arg, &classes, lent, text, out)? {
             Turn::On(next) => work = next,
             Turn::Done(line) => return Ok(line),

@@ -6,10 +6,10 @@ use Rattle.rules.specs.Record.{flat_of}
 use Rattle.building.specs.Turns.{Stands, turns_left}
 use Rattle.slices.proofs.make_line_of.Given as goal
 
-abbrev pub invariant-loop-arg : goal.invariant-loop-arg
-invariant-loop-arg l =
+abbrev pub invariant-loop-next : goal.invariant-loop-next
+invariant-loop-next l =
     Stands (either_line l.batch l.force_quotes l.lent (flat_of l.args) l.text (length l.initial.out)) l.lent l.text l.args l.initial.out l.work l.out × (length l.out ≡ length l.initial.out)
 
-abbrev pub decreases-loop-arg : goal.decreases-loop-arg
-decreases-loop-arg l =
+abbrev pub decreases-loop-next : goal.decreases-loop-next
+decreases-loop-next l =
     turns_left (either_line l.batch l.force_quotes l.lent (flat_of l.args) l.text (length l.initial.out)) l.lent l.text l.args l.initial.out l.work

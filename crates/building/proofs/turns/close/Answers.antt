@@ -1,11 +1,9 @@
 -- `building::turns::close` meets its contract. Assumes nothing.
 use Rattle.std.proofs.lemmas.Result.{err_from_is_err_and}
-use Rattle.std.specs.Prelude.{Result, Ok}
+use Rattle.std.specs.Prelude.{Ok}
 use mathlib.Core.Path.{ap, refl}
 use Rattle.rules.specs.declared.Line.{Line}
-use Rattle.rules.specs.declared.Refusal.{Refusal}
 use Rattle.building.specs.declared.works.Pass.TheVariants.{Measure, Records, Units, Write}
-use Rattle.building.specs.declared.works.Turn.{Turn}
 use Rattle.building.specs.declared.works.Turn.TheVariants.{On, Done}
 use Rattle.building.specs.declared.works.Work.{Work}
 use Rattle.building.specs.Works.{going}
