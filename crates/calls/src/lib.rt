@@ -13,25 +13,39 @@ use std::rt::Env;
 use terminal::numbers::number_of;
 use terminal::words::arg_count;
 
-// The tool's own name, as units.
-const NAME: [u16; 5] = [
-    b'l' as u16,
-    b'i' as u16,
-    b'n' as u16,
-    b'e' as u16,
-    b's' as u16,
-];
-
-// `read`: the arguments of a line. An empty line is read as the name of the executable, here the tool's own.
-pub fn read(rt: &(impl Env + Print)) -> Result<()> {
+// Says what comes of the units of the one word that a command takes, or what word that is.
+fn say_of_word<F: FnOnce(&[u16]) -> Result<()>>(
+    rt: &(impl Env + Print),
+    takes: &str,
+    say: F,
+) -> Result<()>
+    requires { F.IsAlwaysCallable say }
+{
     if arg_count(rt) != 3 {
-        return println!(rt; "error: read takes one word, the line: put it in quotes");
+        return println!(rt; "error: {takes}");
     }
     let mut text = room::text();
     match take_word(rt, 2, &mut text, 0)? {
-        Some(units) => say_read(rt, &text[..units], &NAME),
+        Some(units) => say(&text[..units]),
         None => Ok(()),
     }
+}
+
+// `read`: the arguments of a line. An empty line is read as the name of the executable, here the tool's own.
+pub fn read(rt: &(impl Env + Print)) -> Result<()> {
+    let name = b"lines".map(u16::from);
+    say_of_word(
+        rt,
+        "read takes one word, the line: put it in quotes",
+        |line| { say_read(rt, line, &name) },
+    )
+}
+
+// `suffix`: whether a path has the suffix of a batch script.
+pub fn suffix(rt: &(impl Env + Print)) -> Result<()> {
+    say_of_word(rt, "suffix takes one word, a path", |path| {
+        say_suffix(rt, has_bat_extension(path))
+    })
 }
 
 // The block of the entries that records name in a text.
@@ -81,17 +95,5 @@ pub fn status(rt: &(impl Env + Print)) -> Result<()> {
             say_code(rt, status::code(number))
         }
         None => println!(rt; "error: a status is a decimal number from 0 to 4294967295"),
-    }
-}
-
-// `suffix`: whether a path has the suffix of a batch script.
-pub fn suffix(rt: &(impl Env + Print)) -> Result<()> {
-    if arg_count(rt) != 3 {
-        return println!(rt; "error: suffix takes one word, a path");
-    }
-    let mut text = room::text();
-    match take_word(rt, 2, &mut text, 0)? {
-        Some(units) => say_suffix(rt, has_bat_extension(&text[..units])),
-        None => Ok(()),
     }
 }

@@ -35,7 +35,7 @@ pub fn units_of(bytes: &[u8], out: &mut [u16]) -> usize
     to
 }
 
-// Reads to the end, or until what is lent is full. A pipe hands over a part at a time.
+// Reads to the end, or until what is lent is full. A `while` and no iterator: a pipe hands over a part at a time, of a length of its own.
 fn read_all(from: &mut impl Read, bytes: &mut [u8]) -> Result<usize, Cause>
     ensures { IfOk result (λ count. count ≤ length bytes.old) }
 {

@@ -174,13 +174,8 @@ fn add_word(
         Kind::Argument => put_argument(rt, word, table, numbers)?,
         Kind::Entry => put_entry(rt, word, text, table, numbers)?,
     };
-    match put {
-        Some(end) => Ok(Some(Spot {
-            at: at + units,
-            numbers: end,
-        })),
-        None => Ok(None),
-    }
+    let at = at + units;
+    Ok(put.map(|numbers| Spot { at, numbers }))
 }
 
 // The words from an index on, their units in the text from a place on.

@@ -1,15 +1,12 @@
 // The tool's command `entries`, a program of its own: the entries of an environment block, from a dump of its units.
 #![tactic(auto)]
 
-ghost use Rattle.std.specs.Prelude.{◌≤◌, length};
-
 use console::messages::block_unread;
 use console::reports::{say_behind, say_bracketed, say_entry};
 use console::room;
 use dumps::{read_word, units_of};
 use entries::{BLOCK_LIMIT, read_envp};
 use rules::Entries;
-use scans::find_nul;
 use std::io::Result;
 use terminal::words::arg_count;
 use units::parts::part_of;
@@ -30,44 +27,41 @@ fn say_entries(rt: &impl Print, block: &[u16], spans: &[u32], count: usize) -> R
 }
 
 // How many entries there are, the units that they take, and what stands behind those.
-fn say_used(rt: &impl Print, block: &[u16], count: usize, units: usize) -> Result<()> {
-    let used = units.min(block.len());
+fn say_used(rt: &impl Print, block: &[u16], entries: Entries) -> Result<()> {
+    let count = entries.count;
+    let used = entries.units.min(block.len());
     print!(rt; "entries: {count}, units used: {used}")?;
     say_behind(rt, &block[used..])
 }
 
-// Where the entry of this number starts, counted from 1, or the end where the block has fewer.
-fn entry_start(block: &[u16], number: usize) -> usize
-    ensures { result ≤ length block.now }
-{
-    let mut left = number;
-    for (at, unit) in block.iter().enumerate() {
-        if left <= 1 {
-            return at;
-        }
-        if *unit == 0 {
-            left -= 1;
-        }
+// The block from the entry of this number on, counted from 1; none where the block ends in front of it.
+fn from_entry(block: &[u16], number: usize) -> Option<&[u16]> {
+    let mut rest = block;
+    for _ in 1..number {
+        let end = rest.iter().position(|unit| *unit == 0)?;
+        rest = &rest[end + 1..];
     }
-    block.len()
+    if rest.is_empty() { None } else { Some(rest) }
 }
 
 // What is wrong with the first bad entry.
 fn say_fault(rt: &impl Print, block: &[u16], number: usize) -> Result<()> {
-    let start = entry_start(block, number);
-    let rest = &block[start..];
-    let size = find_nul(rest);
     print!(rt; "entry {number}: ")?;
-    if rest.is_empty() {
-        println!(rt; "the dump ends in front of it, and the final NUL is missing")
-    } else if size == 0 {
-        println!(rt; "it has no units, and no second NUL ends a block without entries")
-    } else if size == rest.len() {
-        print!(rt; "the dump ends inside it: ")?;
-        say_bracketed(rt, rest)
-    } else {
-        print!(rt; "there is no = behind its first unit: ")?;
-        say_bracketed(rt, &rest[..size])
+    let Some(rest) = from_entry(block, number) else {
+        return println!(rt; "the dump ends in front of it, and the final NUL is missing");
+    };
+    match rest.iter().position(|unit| *unit == 0) {
+        None => {
+            print!(rt; "the dump ends inside it: ")?;
+            say_bracketed(rt, rest)
+        }
+        Some(0) => {
+            println!(rt; "it has no units, and no second NUL ends a block without entries")
+        }
+        Some(size) => {
+            print!(rt; "there is no = behind its first unit: ")?;
+            say_bracketed(rt, &rest[..size])
+        }
     }
 }
 
@@ -75,9 +69,9 @@ fn say_fault(rt: &impl Print, block: &[u16], number: usize) -> Result<()> {
 fn list(rt: &impl Print, block: &[u16]) -> Result<()> {
     let mut spans = room::table();
     match read_envp(block, &mut spans) {
-        Ok(Entries { count, units }) => {
-            say_entries(rt, block, &spans, count)?;
-            say_used(rt, block, count, units)
+        Ok(entries) => {
+            say_entries(rt, block, &spans, entries.count)?;
+            say_used(rt, block, entries)
         }
         Err(refusal) => {
             block_unread(rt, refusal, BLOCK_LIMIT)?;

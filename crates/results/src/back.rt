@@ -16,6 +16,24 @@ pub struct Given<'a> {
     pub text: &'a [u16],
 }
 
+impl<'a> Given<'a> {
+    // How many arguments there are, the program among them.
+    fn count(&self) -> usize {
+        self.records.len() / 3 + 1
+    }
+
+    // The argument of an index: argument 0 is the program, each other the part of the text that its record names behind its kind.
+    fn argument(&self, index: usize) -> Option<&'a [u16]> {
+        if index == 0 {
+            return Some(self.program);
+        }
+        match self.records.chunks_exact(3).nth(index - 1) {
+            Some([_, span @ ..]) => Some(argument(self.text, span, 0)),
+            _ => None,
+        }
+    }
+}
+
 // What is read: so many arguments, their texts and their spans.
 #[derive(Clone, Copy)]
 struct Back<'a> {
@@ -24,38 +42,34 @@ struct Back<'a> {
     count: usize,
 }
 
-// The argument of an index: argument 0 is the program, each other the part of the text that its record names behind its kind.
-fn given_argument<'a>(given: &Given<'a>, index: usize) -> Option<&'a [u16]> {
-    if index == 0 {
-        return Some(given.program);
+impl<'a> Back<'a> {
+    // The argument of an index.
+    fn argument(&self, index: usize) -> &'a [u16] {
+        argument(self.text, self.spans, index)
     }
-    match given.records.chunks_exact(3).nth(index - 1) {
-        Some([_, span @ ..]) => Some(argument(given.text, span, 0)),
-        _ => None,
-    }
-}
 
-// Whether the argument read at an index is the one given.
-fn is_given(back: &Back, given: &Given, index: usize) -> bool {
-    match given_argument(given, index) {
-        Some(units) => same_units(argument(back.text, back.spans, index), units),
-        None => false,
+    // Whether the argument of an index is the one given.
+    fn is_given(&self, given: &Given, index: usize) -> bool {
+        match given.argument(index) {
+            Some(units) => same_units(self.argument(index), units),
+            None => false,
+        }
     }
 }
 
 // Each argument on a line of its own.
 fn say_arguments(rt: &impl Print, back: &Back) -> Result<()> {
     for index in 0..back.count {
-        say_argument(rt, index, argument(back.text, back.spans, index))?;
+        say_argument(rt, index, back.argument(index))?;
     }
     Ok(())
 }
 
 // Whether the arguments read are those given.
 fn say_verdict(rt: &impl Print, back: &Back, given: &Given) -> Result<()> {
-    match (0..back.count).find(|index| !is_given(back, given, *index)) {
+    match (0..back.count).find(|index| !back.is_given(given, *index)) {
         Some(other) => println!(rt; "argument {other} is not the one given"),
-        None if back.count == given.records.len() / 3 + 1 => println!(rt; "each is the one given"),
+        None if back.count == given.count() => println!(rt; "each is the one given"),
         None => println!(rt; "there are not as many as were given"),
     }
 }

@@ -73,7 +73,8 @@ fn joined_of(high: u16, low: u16) -> char
     char::from_u32(65536 + u32::from(high - 55296) * 1024 + u32::from(low - 56320)).unwrap()
 }
 
-// Shows units at the front of what is lent. An answer above its length says that there is no room for all.
+// Shows units at the front of what is lent. An answer above its length says that there is no room for all. A `while` and no iterator: a character takes one
+// unit or two.
 pub fn show(units: &[u16], out: &mut [u8]) -> usize
     ensures { Clipped (shown units.now) result out.old out.new }
 {

@@ -1,10 +1,10 @@
--- Which command a word names, by its length and its bytes. Assumes nothing.
+-- Which command a word names, and whether it asks for quotes, by its length and its bytes. Assumes nothing.
 use Rattle.std.proofs.Common.{ℕ, ◌≡◌, refl, Bool, true, false, List, [], ◌∷◌, length, get_or, arith, eqb, eqb-true}
 use Rattle.std.proofs.lemmas.Slice.Eq.{text_from_reads}
 use Rattle.rules.specs.Choice.{equal}
 use Rattle.rules.specs.Unit.{units}
 use Rattle.terminal.specs.declared.words.Command.{Command}
-use Rattle.terminal.specs.Word.{command_of, small_command_of}
+use Rattle.terminal.specs.Word.{command_of, small_command_of, is_force}
 use Rattle.laws.specs.Choice.{both_true}
 
 pub is_read : (w : List ℕ) → length w ≡ 4 → get_or w 0 0 ≡ 114 → get_or w 1 0 ≡ 101 → get_or w 2 0 ≡ 97 → get_or w 3 0 ≡ 100 → command_of w ≡ Command.Read
@@ -113,3 +113,15 @@ unfolding command_of small_command_of
 is_unknown w a b c d e f g = rw (no_read w a, no_write w b, no_batch w c, no_env w d, no_status w e, no_suffix w f, no_help w g)
 
 pub ruleset commands = (is_read, is_write, is_batch, is_env, is_status, is_suffix, is_help, is_unknown)
+
+-- ---- the word that asks for quotes
+
+pub is_forced : (w : List ℕ) → length w ≡ 7 → get_or w 0 0 ≡ 45 → get_or w 1 0 ≡ 45 → get_or w 2 0 ≡ 102 → get_or w 3 0 ≡ 111 → get_or w 4 0 ≡ 114 → get_or w 5 0 ≡ 99 → get_or w 6 0 ≡ 101 → is_force w ≡ true
+unfolding is_force units
+is_forced w l a b d e f g h = rw (text_from_reads w (45 ∷ 45 ∷ 102 ∷ 111 ∷ 114 ∷ 99 ∷ 101 ∷ []) l (a, (b, (d, (e, (f, (g, (h, tt)))))))) refl
+
+pub not_forced : (w : List ℕ) → (length w ≡ 7 → get_or w 0 0 ≡ 45 → get_or w 1 0 ≡ 45 → get_or w 2 0 ≡ 102 → get_or w 3 0 ≡ 111 → get_or w 4 0 ≡ 114 → get_or w 5 0 ≡ 99 → get_or w 6 0 ≡ 101 → ⊥) → is_force w ≡ false
+unfolding is_force units
+not_forced w n = equal_no w (45 ∷ 45 ∷ 102 ∷ 111 ∷ 114 ∷ 99 ∷ 101 ∷ []) (λ e. n (rw e refl) (rw e refl) (rw e refl) (rw e refl) (rw e refl) (rw e refl) (rw e refl) (rw e refl))
+
+pub ruleset forces = (is_forced, not_forced)

@@ -119,7 +119,7 @@ fn scalar_of(bytes: &[u8]) -> Option<Scalar>
     }
 }
 
-// The units of a character: one, or a high and a low surrogate.
+// The units of a character: one, or a high and a low surrogate. Not by std's `encode_utf16`: the table gives a number of 21 bits, and `value_of` says no more.
 fn put_units(out: &mut [u16], at: usize, value: u32) -> usize
     requires { (value < 2097152) × (at + 2 < 2 ^ 64) }
     ensures { Placed (units_of value) at result out.old out.new }
@@ -134,7 +134,8 @@ fn put_units(out: &mut [u16], at: usize, value: u32) -> usize
     at + 2
 }
 
-// The units of bytes in UTF-8, up to the first byte that begins no well-formed sequence.
+// The units of bytes in UTF-8, up to the first byte that begins no well-formed sequence. By the table and not by std's `from_utf8`: `Decoded` speaks in the
+// words of the table.
 pub fn decode(bytes: &[u8], out: &mut [u16]) -> Taken
     ensures { Decoded bytes.now result out.old out.new }
 {

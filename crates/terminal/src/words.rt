@@ -4,7 +4,6 @@ ghost use Rattle.laws.specs.Scan.{before};
 ghost use Rattle.rules.specs.Unit.{is_equals};
 ghost use Rattle.terminal.specs.Word.{command_of, is_force, key_length, Spanned};
 
-use octets::same;
 use scans::find_near;
 use std::env::{Env, FillError};
 use stores::put_number;
@@ -53,13 +52,14 @@ pub fn command_of(word: &[u8]) -> Command
 }
 
 // Whether a word asks for quotes round each argument.
+#[tactic(auto, using(crate::proofs::Commands::forces))]
 pub fn is_force(word: &[u8]) -> bool
     ensures { result ≡ is_force word.now }
 {
-    same(word, b"--force")
+    matches!(word, b"--force")
 }
 
-// The index of the first `=`, or the length where there is none.
+// The index of the first `=`, or the length where there is none: all of it is key then.
 fn find_equals(units: &[u16]) -> usize
     ensures { result ≡ before is_equals units.now }
 {
