@@ -20,7 +20,7 @@ VARIANTS = {
     'answer': [
         ('the code as it stands', 'answer/src/main.rt', []),
         ('an empty argument at the end of a line dropped', 'reading/src/laying.rt',
-         [('        count += 1;\n', '        if 0 < units {\n            count += 1;\n        } else if i + took.used < line.len() {\n'
+         [('        count += 1;\n', '        if 0 < took.units {\n            count += 1;\n        } else if i + took.used < line.len() {\n'
            '            count += 1;\n        }\n')]),
         ('argument 0 read with the backslash rule', 'reading/src/laying.rt',
          [('let first = read_first(line, text);', 'let first = read_later(line, text);')]),
@@ -29,9 +29,9 @@ VARIANTS = {
            '    if unit == 92 {\n        stores::put(out, spot.to, 92);\n        stores::put(out, spot.to + 1, 92);\n'
            '        return Spot { to: spot.to + 2, k: 0 };\n    }\n    stores::put(out, spot.to, unit);\n')]),
         ('a quote mark of a batch argument escaped with a backslash', 'quoting/src/escapes.rt',
-         [('if batch { 34 } else { 92 }', 'if batch { 92 } else { 92 }')]),
+         [('if batch { QUOTE } else { BACKSLASH }', 'if batch { BACKSLASH } else { BACKSLASH }')]),
         ('NUL tested before CR in a batch argument', 'adding/src/judging.rt',
-         [('    if breaks {\n', '    if nul {\n        return Progress::Stopped(Refusal::Nul(place));\n    }\n    if breaks {\n')]),
+         [('    if breaks {\n', '    if nul {\n        return Err(Refusal::Nul(place));\n    }\n    if breaks {\n')]),
         ('units written before a later argument is refused', 'building/src/turns.rt',
          [('            let judged =', '            let early = writing::add_argument(classes, out, units, text, arg, style);\n            let judged =')]),
         ('a line built of one unit more than its limit', 'adding/src/limits.rt',
@@ -40,18 +40,18 @@ VARIANTS = {
     ],
     'cached': [
         ('the code as it stands', 'cached/src/main.rt', []),
-        ('the force flag not compared', 'finding/src/lib.rt', [('index[at + 1] != flag_word(force_quotes)', 'index[at + 1] != index[at + 1]')]),
-        ('kinds not compared', 'keys/src/matching.rt', [('number(key[at]) != kind as usize', 'number(key[at]) > 1 + kind as usize')]),
-        ('where an argument ends not compared', 'keys/src/matching.rt', [('number(key[at + 1]) != content.len()', 'number(key[at + 1]) > 65536 + content.len()')]),
+        ('the force flag not compared', 'finding/src/lib.rt', [('index[at + 1] != flag_word(lent.force_quotes)', 'index[at + 1] != index[at + 1]')]),
+        ('kinds not compared', 'keys/src/matching.rt', [('usize::from(key[at]) != kind as usize', 'usize::from(key[at]) > 1 + kind as usize')]),
+        ('where an argument ends not compared', 'keys/src/matching.rt', [('usize::from(key[at + 1]) != content.len()', 'usize::from(key[at + 1]) > 65536 + content.len()')]),
         ('equality not checked after the fingerprint', 'finding/src/lib.rt',
-         [('    is_key(key, program, records, text)\n', '    is_key(key, program, records, text) | true\n')]),
+         [('    is_key(key, lent)\n', '    is_key(key, lent) | true\n')]),
         ('only the first entry of a fingerprint looked at', 'finding/src/lib.rt',
-         [('        i += 1;\n', '        if index[at] == fingerprint {\n            i = n;\n        } else {\n            i += 1;\n        }\n')]),
+         [('units.len()));\n        }\n', 'units.len()));\n        }\n        if index[at] == fingerprint {\n            return None;\n        }\n')]),
         ('the line of the first entry handed back', 'finding/src/lib.rt', [('line_at(index, at, units.len())', 'line_at(index, 2, units.len())')]),
         ('full at 63 entries', 'cache/src/lib.rt', [('PLACES: usize = 64;', 'PLACES: usize = 63;')]),
         ('the two units an argument not counted', 'keys/src/laying.rt', [('size + 2 + content.len()', 'size + content.len()')]),
-        ('4 where all entries are used', 'storing/src/lib.rt', [('return Refusal::Places;', 'return Refusal::Room;')]),
-        ('a held line answered as stored', 'cache/src/lib.rt', [('Cached::Held { start, units },', 'Cached::Stored { start, units },')]),
+        ('4 where all entries are used', 'storing/src/lib.rt', [('if full => Refusal::Places', 'if full => Refusal::Room')]),
+        ('a held line answered as stored', 'cache/src/lib.rt', [('Ok(Cached::Held { start, units })', 'Ok(Cached::Stored { start, units })')]),
     ],
 }
 
