@@ -1,12 +1,12 @@
 // One entry more in a store. The line is built straight into its place, and only then are key and words written: a refusal has changed nothing.
 #![tactic(auto)]
 
-ghost use Rattle.std.specs.Prelude.{◌≡◌, ◌∷◌, [], ◌+◌, ◌*◌, ◌≤◌, ◌<◌, length};
+ghost use Rattle.std.specs.Prelude.{◌≡◌, ◌+◌, ◌*◌, ◌≤◌, ◌<◌, length};
 ghost use Rattle.std.proofs.lemmas.List.Edits.{sets};
 ghost use Rattle.rules.specs.Choice.{pick};
 ghost use Rattle.keys.specs.Lent.{launch_of};
-ghost use Rattle.rules.specs.Store.{flag_word};
 ghost use Rattle.storing.specs.Added.{refusal_for, EntryPut, Adds};
+ghost use Rattle.storing.specs.Words.{words_of};
 
 use building::make_command_line;
 use keys::index::{flag_word, word_at};
@@ -39,31 +39,33 @@ fn refusal_for(full: bool, r: Refusal) -> Refusal
     }
 }
 
-// The words of one entry more, whose units start where those of the others end; then how many entries there are and how many units they use.
-fn put_entry(
-    index: &mut [u64],
-    count: usize,
-    used: usize,
+// An entry of a store: what its words say.
+#[derive(Clone, Copy, Debug)]
+struct Entry {
     fingerprint: u64,
     force_quotes: bool,
     program: usize,
+    start: usize,
     key: usize,
     line: usize,
-)
-    requires { (2 + 6 * (count + 1) ≤ length index.old) × (used + (key + line) < 18446744073709551616) }
-    ensures { EntryPut count used (fingerprint ∷ flag_word force_quotes ∷ program ∷ used ∷ key ∷ line ∷ []) (used + (key + line)) index.old index.new }
+}
+
+// The words of one entry more, whose units start where those of the others end; then how many entries there are and how many units they use.
+fn put_entry(index: &mut [u64], count: usize, entry: Entry)
+    requires { (2 + 6 * (count + 1) ≤ length index.old) × (entry.start + (entry.key + entry.line) < 18446744073709551616) }
+    ensures { EntryPut count entry.start (words_of entry) (entry.start + (entry.key + entry.line)) index.old index.new }
 {
-    let flag = flag_word(force_quotes);
     let words = [
-        fingerprint,
-        flag,
-        program as u64,
-        used as u64,
-        key as u64,
-        line as u64,
+        entry.fingerprint,
+        flag_word(entry.force_quotes),
+        entry.program as u64,
+        entry.start as u64,
+        entry.key as u64,
+        entry.line as u64,
     ];
     put_words(index, 2 + 6 * count, &words);
-    let front = [(count + 1) as u64, (used + (key + line)) as u64];
+    let used = entry.start + (entry.key + entry.line);
+    let front = [(count + 1) as u64, used as u64];
     put_words(index, 0, &front);
 }
 
@@ -93,16 +95,15 @@ pub fn add(
         Err(r) => Err(refusal_for(full, r)),
         Ok(Line { units: line }) => {
             laying::put_key(units, used, lent);
-            put_entry(
-                index,
-                count,
-                used,
+            let entry = Entry {
                 fingerprint,
                 force_quotes,
-                program.len(),
+                program: program.len(),
+                start: used,
                 key,
                 line,
-            );
+            };
+            put_entry(index, count, entry);
             Ok(Cached::Stored { start, units: line })
         }
     }

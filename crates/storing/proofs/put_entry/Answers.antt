@@ -4,4 +4,4 @@ use Rattle.storing.proofs.put_entry.Goals as goal
 
 pub returns : goal.returns
 returns c =
-    record { puts = c.put_words-2.ensures ∙ rw (c.put_words.ensures, c.flag_word-flag.ensures) }
+    record { puts = c.put_words-2.ensures ∙ rw (c.put_words.ensures, c.flag_word.ensures) }
