@@ -51,12 +51,10 @@ fn eights_same(a: &[u16], b: &[u16]) -> bool
     ensures { result ≡ equal a.now b.now }
 {
     let last = a.len() - 8;
-    let mut i = 0;
-    while i < last {
+    for i in (0..last).step_by(8) {
         if !eight_same(a, b, i) {
             return false;
         }
-        i += 8;
     }
     eight_same(a, b, last)
 }

@@ -60,12 +60,10 @@ fn many_have_either(units: &[u16], a: u16, b: u16) -> bool
     ensures { result ≡ any (is_either a b) units.now }
 {
     let last = units.len() - 8;
-    let mut i = 0;
-    while i < last {
+    for i in (0..last).step_by(8) {
         if eight_have_either(units, i, a, b) {
             return true;
         }
-        i += 8;
     }
     eight_have_either(units, last, a, b)
 }

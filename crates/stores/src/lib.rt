@@ -78,10 +78,8 @@ fn copy_eights(out: &mut [u16], at: usize, run: &[u16])
     ensures { out.new ≡ sets out.old at run.now }
 {
     let last = run.len() - 8;
-    let mut i = 0;
-    while i < last {
+    for i in (0..last).step_by(8) {
         copy_eight(out, at + i, run, i);
-        i += 8;
     }
     copy_eight(out, at + last, run, last);
 }
