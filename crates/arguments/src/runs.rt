@@ -24,15 +24,21 @@ pub fn is_end(unit: u16, quoted: bool) -> bool
     !quoted && is_blank(unit)
 }
 
-// How many units stand before a quote mark, one unit more and, outside quotes, a blank. Inside quotes the mark is looked for in a blank's place.
+// A unit that ends a run outside quotes; inside them the quote mark once more, which ends every run.
+fn outside_quotes(quoted: bool, unit: u16) -> u16
+    ensures { result ≡ pick quoted 34 unit }
+{
+    if quoted { QUOTE } else { unit }
+}
+
+// How many units stand before a quote mark, one unit more and, outside quotes, a blank. It is laid into each reader, so that the machine knows that unit there.
+#[inline(always)]
 fn run_before(rest: &[u16], also: u16, quoted: bool) -> usize
     ensures { result ≡ before (is_one_of 34 also (pick quoted 34 32) (pick quoted 34 9)) rest.now }
 {
-    if quoted {
-        find_any(rest, QUOTE, also, QUOTE, QUOTE)
-    } else {
-        find_any(rest, QUOTE, also, SPACE, TAB)
-    }
+    let space = outside_quotes(quoted, SPACE);
+    let tab = outside_quotes(quoted, TAB);
+    find_any(rest, QUOTE, also, space, tab)
 }
 
 // How many units of argument 0 that are taken as they are the rest of a line starts with: up to a quote mark and, outside quotes, a blank.
