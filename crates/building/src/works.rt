@@ -31,31 +31,27 @@ pub enum Turn {
     Done(Line),
 }
 
-// At a record of the record pass.
-fn begin_at(batch: bool, force: bool, count: usize, at: usize) -> Work
-    ensures { result ≡ begun_at batch force count at }
-{
-    Work {
-        count,
-        units: 0,
-        at,
-        style: Style { batch, force },
-        pass: Pass::Records,
-    }
-}
-
 // Before the first pass over so many records.
 pub fn begin(batch: bool, force: bool, count: usize) -> Work
     ensures { result ≡ begun_at batch force count 0 }
 {
-    begin_at(batch, force, count, 0)
+    Work {
+        count,
+        units: 0,
+        at: 0,
+        style: Style { batch, force },
+        pass: Pass::Records,
+    }
 }
 
 // Behind the first pass, where the records are judged already.
 pub(crate) fn begin_judged(batch: bool, force: bool, count: usize) -> Work
     ensures { result ≡ begun_at batch force count count }
 {
-    begin_at(batch, force, count, count)
+    Work {
+        at: count,
+        ..begin(batch, force, count)
+    }
 }
 
 // Into another pass, with so many units.

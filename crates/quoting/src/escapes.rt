@@ -75,12 +75,13 @@ fn put_unit(out: &mut [u16], spot: Spot, unit: u16, batch: bool) -> Spot
 {
     if marks::is_mark(unit, batch) {
         let to = put_mark(out, spot.to, unit, spot.k, batch);
-        return Spot { to, k: 0 };
-    }
-    stores::put(out, spot.to, unit);
-    Spot {
-        to: spot.to + 1,
-        k: count_on(spot.k, unit),
+        Spot { to, k: 0 }
+    } else {
+        stores::put(out, spot.to, unit);
+        Spot {
+            to: spot.to + 1,
+            k: count_on(spot.k, unit),
+        }
     }
 }
 
@@ -104,7 +105,7 @@ fn still_count(k: usize, n: usize) -> usize
 }
 
 // What stands for the units of an argument. Behind a stretch that is copied, sixteen units go one by one before the next is looked for, so that
-// text full of marks is not scanned in vain at each.
+// text full of marks is not scanned in vain at each. An index and no iterator: how far a step goes is what its scan answers.
 fn put_content(out: &mut [u16], at: usize, arg: &[u16], batch: bool) -> Spot
     requires { at + length (stretch batch 0 arg.now) < 2 ^ 64 }
     ensures { Emits batch 0 arg.now at result.to result.k out.old out.new }

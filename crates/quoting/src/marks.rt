@@ -4,12 +4,10 @@ ghost use Rattle.std.specs.Prelude.{◌≡◌, ◌+◌, ◌≤◌, length};
 ghost use Rattle.rules.specs.Record.{part};
 ghost use Rattle.quoting.specs.Emitted.{is_mark, other_mark, is_all_plain, PlainFront};
 
-// The quote mark, the percent and the backslash.
-pub const QUOTE: u16 = 34;
-
-const PERCENT: u16 = 37;
-
-pub const BACKSLASH: u16 = 92;
+// The units that an argument's form treats by themselves.
+pub const QUOTE: u16 = b'"' as u16;
+const PERCENT: u16 = b'%' as u16;
+pub const BACKSLASH: u16 = b'\\' as u16;
 
 // The unit that is replaced beside the quote mark: in a batch argument the percent, else no other, so the quote mark again.
 fn other_mark(batch: bool) -> u16
@@ -40,7 +38,7 @@ fn eight_plain(units: &[u16], at: usize, batch: bool) -> bool
     !scans::eight_have_either(units, at, QUOTE, other_mark(batch)) && units[at + 7] != BACKSLASH
 }
 
-// How many units at the front are plain, taken by eights.
+// How many units at the front are plain, taken by eights. An index and no `chunks_exact`: the scan of eight takes the units and a place among them.
 pub fn plain_eights(rest: &[u16], batch: bool) -> usize
     ensures { PlainFront batch rest.now result }
 {

@@ -26,14 +26,15 @@ pub const NO_ARG: Arg = Arg {
 pub fn record_at(records: &[u32], index: usize) -> Arg
     ensures { result ≡ get_or (records_of records.now) index no_arg }
 {
-    if records.len() / 3 <= index {
-        return NO_ARG;
-    }
-    let at = index * 3;
-    Arg {
-        kind: records[at],
-        start: records[at + 1],
-        len: records[at + 2],
+    if index < records.len() / 3 {
+        let at = index * 3;
+        Arg {
+            kind: records[at],
+            start: records[at + 1],
+            len: records[at + 2],
+        }
+    } else {
+        NO_ARG
     }
 }
 

@@ -7,11 +7,11 @@ use mathlib.Core.Path.{sym}
 use borrow.Author.Rules.{rules}
 use Rattle.records.proofs.record_at.Goals as goal
 
-pub returns-then-records-index : goal.returns-then-records-index
-returns-then-records-index c =
+pub returns-else-index-records : goal.returns-else-index-records
+returns-else-index-records c =
     let a = c.args in
     let n = whole_count a.records.now in
     sym (get_or-eq_default (records_of a.records.now) no_arg {n = a.index} (omega arith))
 
-pub returns : goal.returns
-returns c = record_is c.args.records.now c.args.index (search rules)
+pub returns-then-index-records : goal.returns-then-index-records
+returns-then-index-records c = record_is c.args.records.now c.args.index (search rules)

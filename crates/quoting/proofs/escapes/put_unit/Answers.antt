@@ -24,9 +24,9 @@ overflow_add-result c =
     let e = sym c.is_mark.ensures ∙ c.if-is_mark.false in
     omega (arith, rw (kept_stretch a.batch a.spot.k a.unit e) at c.requires.0)
 
-pub returns : goal.returns
+pub returns-else-is_mark : goal.returns-else-is_mark
 unfolding trailing_from
-returns c =
+returns-else-is_mark c =
     let a = c.args in
     let e = sym c.is_mark.ensures ∙ c.if-is_mark.false in
     record { places = rw (kept_stretch a.batch a.spot.k a.unit e) (unit_placed a.unit a.spot.to c.put.ensures); counts = c.count_on.ensures }

@@ -1,5 +1,0 @@
--- `building::make_bat_command_line` meets its contract. Assumes nothing.
-use Rattle.building.proofs.make_bat_command_line.Goals as goal
-
-pub returns : goal.returns
-returns c = c.build.ensures
