@@ -31,21 +31,16 @@ fn take(
     ensures { TakenRecord text.now arg work result out.old out.new }
 {
     let style = work.style;
-    let pass = work.pass;
-    let units = work.units;
-    let place = work.at + 1;
-    match pass {
-        Pass::Records => works::go_on(work, judging::judge_record(text, units, place, arg)),
-        Pass::Units => {
-            let judged = judging::judge_units(style.batch, text, units, place, arg);
-            works::go_on(work, judged)
-        }
+    let at = work.at + 1;
+    let units = match work.pass {
+        Pass::Records => judging::judge_record(text, work.units, at, arg)?,
+        Pass::Units => judging::judge_units(style.batch, text, work.units, at, arg)?,
         Pass::Measure | Pass::Write => {
-            let end = lent_units(pass, out.len());
-            let counted = writing::add_argument(classes, &mut out[..end], units, text, arg, style);
-            works::go_on(work, Ok(counted))
+            let end = lent_units(work.pass, out.len());
+            writing::add_argument(classes, &mut out[..end], work.units, text, arg, style)
         }
-    }
+    };
+    Ok(Work { units, at, ..work })
 }
 
 // Behind the last record of a pass: its stage, and into the next pass.

@@ -1,9 +1,9 @@
 // Building a line as a state by value: the passes over the records, and how the state moves from one record and one pass to the next.
-ghost use Rattle.std.specs.Prelude.{◌≡◌, ◌<◌};
-ghost use Rattle.building.specs.Works.{begun_at, entered, progressed};
+ghost use Rattle.std.specs.Prelude.{◌≡◌};
+ghost use Rattle.building.specs.Works.{begun_at, entered};
 
 use adding::styles::Style;
-use rules::{Line, Refusal};
+use rules::Line;
 
 // What a pass does with each record: judge the record; judge the units that it names, and count the most that they can take; count its form; write it.
 #[derive(Clone, Copy)]
@@ -64,17 +64,4 @@ pub(crate) fn enter(work: Work, pass: Pass, units: usize) -> Work
         pass,
         ..work
     }
-}
-
-// To the next record of the pass, unless this one is refused.
-pub(crate) fn go_on(work: Work, progress: Result<usize, Refusal>) -> Result<Work, Refusal>
-    requires { work.at < work.count }
-    ensures { result ≡ progressed work progress }
-{
-    let units = progress?;
-    Ok(Work {
-        units,
-        at: work.at + 1,
-        ..work
-    })
 }

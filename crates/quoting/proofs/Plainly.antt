@@ -30,11 +30,6 @@ pub marked_not : (a b : Bool) → b ≡ true → false ≡ both (flip a) (flip b
 marked_not true b h = refl
 marked_not false b h = rw h
 
--- units without backslash at the end are, where there is no mark
-pub unended : (a b : Bool) → a ≡ false → not b ≡ both (flip a) (flip b)
-unended a true h = rw h
-unended a false h = rw h
-
 -- units without mark are, where the last is no backslash
 pub unmarked : (a b c : Bool) → b ≡ false → c ≡ a → not c ≡ both (flip a) (flip b)
 unmarked a b true h e = rw (h, ← e)

@@ -6,7 +6,9 @@ ghost use Rattle.quoting.specs.Emitted.{is_mark, other_mark, is_all_plain, Plain
 
 // The units that an argument's form treats by themselves.
 pub const QUOTE: u16 = b'"' as u16;
+
 const PERCENT: u16 = b'%' as u16;
+
 pub const BACKSLASH: u16 = b'\\' as u16;
 
 // The unit that is replaced beside the quote mark: in a batch argument the percent, else no other, so the quote mark again.

@@ -5,17 +5,6 @@ use Rattle.laws.specs.Placed.{appended, both_placed}
 use Rattle.quoting.proofs.Forming.{edge_length}
 use Rattle.quoting.proofs.escapes.put_plain.Goals as goal
 
-pub put_edge-at-requires : goal.put_edge-at-requires
-put_edge-at-requires c = omega (arith, edge_length c.args.quoted)
-
-pub overflow_add-at : goal.overflow_add-at
-overflow_add-at c =
-    omega (arith, c.put_edge-at.ensures.ends, edge_length c.args.quoted)
-
-pub put_edge-requires : goal.put_edge-requires
-put_edge-requires c =
-    omega (arith, c.put_edge-at.ensures.ends, edge_length c.args.quoted)
-
 pub returns : goal.returns
 returns c =
     appended (both_placed (both_placed c.put_edge-at.ensures (record { ends = refl; stores = c.copy_run.ensures })) c.put_edge.ensures)

@@ -8,13 +8,6 @@ use Rattle.quoting.specs.Emitted.{is_mark}
 use Rattle.quoting.proofs.Plainly.{eighth, marked_not, unmarked}
 use Rattle.quoting.proofs.marks.eight_plain.Goals as goal
 
-pub returns-else-not-eight_have_either : goal.returns-else-not-eight_have_either
-returns-else-not-eight_have_either c =
-    let a = c.args in
-    let b = part a.units.now a.at 8 in
-    let e : any (is_mark a.batch) b ≡ true = sym (rw c.other_mark.ensures at c.eight_have_either.ensures) ∙ c.if-not-eight_have_either.false in
-    rw c.if-not-eight_have_either.false (marked_not (ends_in_backslash b) (any (is_mark a.batch) b) e)
-
 pub returns-then-not-eight_have_either : goal.returns-then-not-eight_have_either
 returns-then-not-eight_have_either c =
     let a = c.args in

@@ -1,9 +1,0 @@
--- `quoting::escapes::still_count` meets its contract. Assumes nothing.
-use borrow.Author.Tests.{eq-eqb, ne_eqb}
-use Rattle.quoting.proofs.escapes.still_count.Goals as goal
-
-pub returns-then-n-eq0 : goal.returns-then-n-eq0
-returns-then-n-eq0 c = rw (eq-eqb _ 0 c.if-n-eq0.true)
-
-pub returns-else-n-eq0 : goal.returns-else-n-eq0
-returns-else-n-eq0 c = rw (ne_eqb _ 0 c.if-n-eq0.false)
