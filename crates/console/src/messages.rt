@@ -18,21 +18,22 @@ fn name_of(refusal: Refusal) -> &'static str {
     }
 }
 
-// A refusal, and what to do.
-fn say_refusal(rt: &impl Print, refusal: Refusal, advice: &str) -> Result<()> {
+// A refusal and what to do, and the limit where a length is past one, each on a line of its own.
+fn say_refusal(
+    rt: &impl Print,
+    refusal: Refusal,
+    advice: &str,
+    limit: Option<usize>,
+) -> Result<()> {
     let number = number_of(refusal);
     let name = name_of(refusal);
     let place = place_of(refusal);
     println!(rt; "refused {number}, {name}, place {place}")?;
-    println!(rt; "{advice}")
-}
-
-// The limit that a length is past, on a line of its own.
-fn say_limit(rt: &impl Print, refusal: Refusal, limit: usize) -> Result<()> {
-    if refusal == Refusal::Length {
-        println!(rt; "The limit is {limit} units.")?;
+    println!(rt; "{advice}")?;
+    match limit {
+        Some(limit) if refusal == Refusal::Length => println!(rt; "The limit is {limit} units."),
+        _ => Ok(()),
     }
-    Ok(())
 }
 
 // A line was not built, ordinary or batch. Place 0 is the program or the script, any other the argument.
@@ -54,8 +55,7 @@ pub fn line_refused(rt: &impl Print, refusal: Refusal, limit: usize) -> Result<(
         }
         Refusal::Places | Refusal::Entry(_) => "",
     };
-    say_refusal(rt, refusal, advice)?;
-    say_limit(rt, refusal, limit)
+    say_refusal(rt, refusal, advice, Some(limit))
 }
 
 // A line was not read.
@@ -66,8 +66,7 @@ pub fn line_unread(rt: &impl Print, refusal: Refusal, limit: usize) -> Result<()
         Refusal::Room => "Lend room for the texts of all arguments.",
         _ => "",
     };
-    say_refusal(rt, refusal, advice)?;
-    say_limit(rt, refusal, limit)
+    say_refusal(rt, refusal, advice, Some(limit))
 }
 
 // A block was not written. The place is the entry.
@@ -79,8 +78,7 @@ pub fn block_refused(rt: &impl Print, refusal: Refusal, limit: usize) -> Result<
         Refusal::Nul(_) => "Take the NUL out: the entry would end there.",
         _ => "",
     };
-    say_refusal(rt, refusal, advice)?;
-    say_limit(rt, refusal, limit)
+    say_refusal(rt, refusal, advice, Some(limit))
 }
 
 // A block was not read. The place is the first bad entry.
@@ -95,8 +93,7 @@ pub fn block_unread(rt: &impl Print, refusal: Refusal, limit: usize) -> Result<(
         }
         _ => "",
     };
-    say_refusal(rt, refusal, advice)?;
-    say_limit(rt, refusal, limit)
+    say_refusal(rt, refusal, advice, Some(limit))
 }
 
 // The text of a status was not written.
@@ -105,5 +102,5 @@ pub fn status_refused(rt: &impl Print, refusal: Refusal) -> Result<()> {
         Refusal::Room => "Lend room for the whole text.",
         _ => "",
     };
-    say_refusal(rt, refusal, advice)
+    say_refusal(rt, refusal, advice, None)
 }
