@@ -152,7 +152,7 @@ fn put_entry(
     Ok(Some(numbers + 4))
 }
 
-// One word more.
+// One word more. The text and the table stay parameters: each method of a struct that lends them would have to say that it keeps their lengths.
 fn add_word(
     rt: &(impl Env + Print),
     kind: Kind,

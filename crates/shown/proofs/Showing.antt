@@ -54,6 +54,8 @@ pub seen : (x : ℕ) → is_hidden x ≡ false → single x ≡ utf8 x
 unfolding single
 seen x h = rw h refl
 
+pub ruleset singles = (out_hidden, escaped, seen)
+
 -- ---- pairs
 
 -- a pair stands at the front

@@ -45,6 +45,7 @@ fn is_hidden(unit: u16) -> bool
 }
 
 // The bytes of a character.
+#[tactic(auto, using(crate::proofs::Showing::utf8_is))]
 fn put_char(out: &mut [u8], at: usize, seen: char) -> usize
     requires { at + 4 < 2 ^ 64 }
     ensures { Placed (utf8 seen) at result out.old out.new }
@@ -54,6 +55,7 @@ fn put_char(out: &mut [u8], at: usize, seen: char) -> usize
 }
 
 // A unit that has no partner. None that is half a pair can be seen.
+#[tactic(auto, using(crate::proofs::Showing::singles))]
 fn put_single(out: &mut [u8], at: usize, unit: u16) -> usize
     requires { at + 128 < 2 ^ 64 }
     ensures { Placed (single unit) at result out.old out.new }

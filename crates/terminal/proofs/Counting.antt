@@ -93,3 +93,5 @@ module _ {word : List ℕ} where
         let v : decimal_from 0 word ≡ value = rw e at c.stands in
         let m : is_empty word ≡ false = filled word n in
         rw (m, d, v, le-ltb largest value c.small)
+
+pub ruleset counts = (none_empty, none_counted, no_digit, past, a_number)

@@ -60,6 +60,7 @@ pub fn is_force(word: &[u8]) -> bool
 }
 
 // The index of the first `=`, or the length where there is none: all of it is key then.
+#[tactic(auto, using(laws::specs::Scan::before_twice))]
 fn find_equals(units: &[u16]) -> usize
     ensures { result ≡ before is_equals units.now }
 {

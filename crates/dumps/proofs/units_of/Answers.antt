@@ -1,6 +1,6 @@
 -- `dumps::units_of` meets its contract. Assumes nothing.
-use Rattle.std.proofs.Common.{arith, rules}
-use Rattle.dumps.proofs.Dumping.{ended, few, started, turn}
+use Rattle.std.proofs.Common.{rules}
+use Rattle.dumps.proofs.Dumping.{ended, started, turn}
 use Rattle.dumps.proofs.units_of.Goals as goal
 
 pub loop-rest-init : goal.loop-rest-init
@@ -11,6 +11,3 @@ loop-rest-preserved c = turn c.loop-rest.invariant (search rules) c.unit_of.ensu
 
 pub returns : goal.returns
 returns c = ended c.loop-rest.invariant (search rules)
-
-pub overflow_add-to : goal.overflow_add-to
-overflow_add-to c = omega (arith, few c.loop-rest.invariant)
