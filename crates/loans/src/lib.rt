@@ -80,7 +80,8 @@ fn argument(text: &[u16], numbers: &[u32], out: &mut [u16], spans: &mut [u32]) -
     }
 }
 
-// The question of a row of the second set, in the order of the table. What is lent stays four parameters, as in the first set.
+// The question of a row of the second set, in the order of the table.
+// A row and four parameters: an enum would name each question three times, and a struct of what is lent would be taken apart again in each function.
 pub fn ask(
     row: usize,
     text: &[u16],

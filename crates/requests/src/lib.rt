@@ -73,8 +73,8 @@ fn status(numbers: &mut [u32], out: &mut [u16], spans: &mut [u32]) -> Answer {
 // How many questions the first set has.
 pub const COUNT: usize = 7;
 
-// The question of a row of the first set, in the order of the table. What is lent stays four parameters: each function would have to take a struct of them
-// apart again before it lends one of them, with as many lines as it has fields.
+// The question of a row of the first set, in the order of the table.
+// A row and four parameters: an enum would name each question three times, and a struct of what is lent would be taken apart again in each function.
 pub fn ask(
     row: usize,
     text: &[u16],

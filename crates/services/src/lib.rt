@@ -77,6 +77,7 @@ fn look(
 }
 
 // `store FP F PROGRAM [K:TEXT ..]`
+// A function beside `look`, and not one that takes which: the one is lent the store to read it, the other to write it.
 fn store(
     text: &[u16],
     numbers: &[u32],
@@ -103,6 +104,7 @@ fn clear(index: &mut [u64; WORDS]) -> Answer {
 }
 
 // The call of a row, in the order of the table. Before a store was made, any but `make` is bad.
+// A row, which is the table's index: an enum would name each call three times.
 fn serve_row(
     row: usize,
     text: &[u16],
