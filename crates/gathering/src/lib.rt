@@ -7,7 +7,7 @@ use console::reports::{no_entry, no_room, no_utf8, say_error};
 use console::room;
 use std::io::Result;
 use std::rt::Env;
-use stores::put_number;
+use stores::put;
 use terminal::utf8::decode;
 use terminal::words::{arg_count, is_force, key_length, put_span};
 
@@ -109,7 +109,7 @@ fn put_argument(
     ensures ok { IfOk result (λ put. IfSome put (λ end. end ≤ length table.old)) }
     ensures err { OnErr result (length table.new ≡ length table.old) }
 {
-    put_number(table, numbers, 0);
+    put(table, numbers, 0);
     if !put_span(table, numbers + 1, word.at, word.units) {
         no_room(rt, word.index)?;
         return Ok(None);

@@ -14,13 +14,6 @@ pub fn put<T: Copy>(out: &mut [T], at: usize, x: T)
     }
 }
 
-// A number at its place, where the table has that place.
-pub fn put_number(table: &mut [u32], at: usize, number: u32)
-    ensures { table.new ≡ set table.old at number }
-{
-    put(table, at, number);
-}
-
 // How many of so many units fit behind a place of an output that has so many places.
 fn fitting(places: usize, at: usize, count: usize) -> usize
     ensures { result ≡ min count (places - at) }

@@ -6,7 +6,7 @@ ghost use Rattle.terminal.specs.Word.{command_of, is_force, key_length, Spanned}
 
 use scans::find_near;
 use std::env::{Env, FillError};
-use stores::put_number;
+use stores::put;
 
 // The unit between a key and its value.
 const EQUALS: u16 = b'=' as u16;
@@ -89,7 +89,7 @@ pub fn put_span(table: &mut [u32], at: usize, start: usize, len: usize) -> bool
     let (Ok(start), Ok(len)) = (u32::try_from(start), u32::try_from(len)) else {
         return false;
     };
-    put_number(table, at, start);
-    put_number(table, at + 1, len);
+    put(table, at, start);
+    put(table, at + 1, len);
     true
 }

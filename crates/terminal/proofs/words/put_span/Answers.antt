@@ -7,4 +7,4 @@ pub returns : goal.returns
 returns c =
     let s = c.in-Ok-Ok.ensures in
     let l = c.in-Ok-Ok.ensures' in
-    both_put _ _ _ _ (search rules) (omega (arith, s.0)) (omega (arith, l.0)) (rw s.1 at c.put_number.ensures) (rw l.1 at c.put_number-2.ensures)
+    both_put _ _ _ _ (search rules) (omega (arith, s.0)) (omega (arith, l.0)) (rw s.1 at c.put.ensures) (rw l.1 at c.put-2.ensures)
