@@ -64,6 +64,7 @@ fn parts_same(a: &[u16], b: &[u16]) -> bool
     requires { length a.now ≡ length b.now }
     ensures { result ≡ equal a.now b.now }
 {
+    // A `while`: it goes on where a part ends.
     let mut i = 0;
     while i < a.len() {
         let end = a.len().min(i + 1024);

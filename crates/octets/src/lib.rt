@@ -18,7 +18,8 @@ pub fn same(a: &[u8], b: &[u8]) -> bool
     a == b
 }
 
-// The index of the first byte that is the one given, or the length where there is none.
+// The index of the first byte that is the one given, or the length, and not an option, where there is none: its contract by `before` has it so, and callers cut
+// there.
 pub fn find(bytes: &[u8], byte: u8) -> usize
     ensures { result ≡ before (λ x. eqb x byte) bytes.now }
 {
@@ -46,6 +47,7 @@ pub fn widen(bytes: &[u8], units: &mut [u16]) -> usize
     ensures { (result ≡ min (length bytes.now) (length units.old)) × (units.new ≡ sets units.old 0 bytes.now) }
 {
     let n = bytes.len().min(units.len());
+    // An index: a byte is read and a unit written at the same place.
     for i in 0..n {
         units[i] = u16::from(bytes[i]);
     }
