@@ -1,8 +1,6 @@
 -- `quoting::escapes::put_plain` meets its contract. Assumes nothing.
-use native.Mathlib.Omega.{arith}
 use mathlib.Core.Path.{refl}
 use Rattle.laws.specs.Placed.{appended, both_placed}
-use Rattle.quoting.proofs.Forming.{edge_length}
 use Rattle.quoting.proofs.escapes.put_plain.Goals as goal
 
 pub returns : goal.returns

@@ -1,11 +1,11 @@
 -- `quoting::marks::eight_plain` meets its contract. Assumes nothing.
 use mathlib.Core.Path.{◌∙◌, ◌≡◌, sym}
-use mathlib.Core.Bool.{false, true}
+use mathlib.Core.Bool.{false}
 use Rattle.rules.specs.Choice.{any}
 use Rattle.rules.specs.Record.{part}
 use Rattle.rules.specs.Batch.{ends_in_backslash}
 use Rattle.quoting.specs.Emitted.{is_mark}
-use Rattle.quoting.proofs.Plainly.{eighth, marked_not, unmarked}
+use Rattle.quoting.proofs.Plainly.{eighth, unmarked}
 use Rattle.quoting.proofs.marks.eight_plain.Goals as goal
 
 pub returns-then-not-eight_have_either : goal.returns-then-not-eight_have_either
