@@ -28,7 +28,7 @@ fn append_form(
     if style.batch {
         quoting::append_bat_arg(classes, out, kind, content, style.force)
     } else {
-        quoting::append_arg(out, kind, content, style.force)
+        quoting::append_arg(classes, out, kind, content, style.force)
     }
 }
 

@@ -23,13 +23,19 @@ fn put_raw(out: &mut [u16], arg: &[u16]) -> usize
 }
 
 // One argument of an ordinary line, at the front of what is lent; the answer is how many units it has. In the Rust: `append_arg`.
-pub fn append_arg(out: &mut [u16], kind: u32, arg: &[u16], force_quotes: bool) -> usize
+pub fn append_arg(
+    classes: &Classes,
+    out: &mut [u16],
+    kind: u32,
+    arg: &[u16],
+    force_quotes: bool,
+) -> usize
     ensures { Appended (written form force_quotes (record { kind = kind; content = arg.now })) result out.old out.new }
 {
     if !kinds::is_regular(kind) {
         return put_raw(out, arg);
     }
-    let quoted = decisions::needs_quotes(arg, force_quotes);
+    let quoted = decisions::needs_quotes(classes, arg, force_quotes);
     let batch = false;
     escapes::put_form(out, arg, Shape { quoted, batch })
 }

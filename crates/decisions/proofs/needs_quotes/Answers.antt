@@ -13,9 +13,17 @@ returns-then-is_empty c =
       | else-force w ↦ rw (w.if-force.false, counted_empty, ← w.is_empty.ensures, ← w.value-is, c.if-is_empty.true)
     ]
 
-pub returns-else-is_empty : goal.returns-else-is_empty
+pub returns-then-has_blank : goal.returns-then-has_blank
 unfolding needs_quotes
-returns-else-is_empty c =
+returns-then-has_blank c =
+    elim c.if-force.branch [
+      | then-force w ↦ cc
+      | else-force w ↦ rw (w.if-force.false, counted_empty, ← w.is_empty.ensures, ← w.value-is, c.if-is_empty.false) c.has_settling.ensures
+    ]
+
+pub returns-else-has_blank : goal.returns-else-has_blank
+unfolding needs_quotes
+returns-else-has_blank c =
     elim c.if-force.branch [
       | then-force w ↦ cc
       | else-force w ↦ rw (w.if-force.false, counted_empty, ← w.is_empty.ensures, ← w.value-is, c.if-is_empty.false) c.has_blank.ensures
