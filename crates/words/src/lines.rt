@@ -28,6 +28,7 @@ pub fn word_end(line: &[u8], at: usize) -> usize
 }
 
 // All words from an index on, by their letters.
+#[tactic(auto, using(crate::proofs::Lining::all_gone))]
 fn take_words(
     line: &[u8],
     start: usize,
@@ -57,6 +58,7 @@ fn take_words(
 }
 
 // A whole line. One that is longer than what is lent, or than any line may be, is none.
+#[tactic(auto, using(crate::proofs::Lining::no_row, crate::proofs::Lining::ill_line, crate::proofs::Lining::line_by))]
 pub fn take_line(
     rows: &[[u8; 20]],
     line: &[u8],

@@ -1,5 +1,5 @@
 -- `words::lines::take_words` meets its contract. Assumes nothing.
-use Rattle.words.proofs.Lining.{all_gone, few_gone, ill_gone, length_part, no_letter, none_gone, one_gone}
+use Rattle.words.proofs.Lining.{few_gone, ill_gone, length_part, no_letter, none_gone, one_gone}
 use native.Mathlib.Omega.{arith}
 use Rattle.words.proofs.lines.take_words.Goals as goal
 
@@ -41,6 +41,3 @@ returns-in_err-held c =
 
 pub returns-then-i-letters : goal.returns-then-i-letters
 returns-then-i-letters c = few_gone c.loop-at.invariant.1 c.loop-at-test.false c.if-i-letters.true
-
-pub returns-else-i-letters : goal.returns-else-i-letters
-returns-else-i-letters c = all_gone c.loop-at.invariant.1 c.loop-at-test.false c.if-i-letters.false
