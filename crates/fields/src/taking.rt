@@ -10,6 +10,7 @@ use forms::texts::take_text;
 pub(crate) const HIGH: u64 = 1 << 32;
 
 // How many units and how many numbers are held.
+// The lent text and table stand beside it: a struct that held them would have to say in each clause that it still holds the same ones.
 #[derive(Clone, Copy, Debug, PartialEq, Eq)]
 pub struct Held {
     pub units: usize,

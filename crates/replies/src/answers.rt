@@ -32,7 +32,8 @@ pub enum Manner {
 #[derive(Clone, Copy, Debug, PartialEq, Eq)]
 pub struct Answer {
     pub word: Word,
-    // How many of the two numbers stand behind the word. A count and two numbers: `answer`, `brief` and `numbered` of `sayings` define answers by them.
+    // How many of the two numbers stand behind the word.
+    // A count beside two numbers, and no list: the definitions `answer`, `brief` and `numbered` of `sayings` name these fields.
     pub count: usize,
     pub first: u64,
     pub second: u64,

@@ -4,8 +4,8 @@ ghost use Rattle.std.specs.Prelude.{[], ◌∷◌, ℕ, List};
 ghost use Rattle.forms.specs.Form.{each};
 ghost use Rattle.replies.specs.Page.{Puts};
 
-// How many bytes are still to be skipped, and where the next one goes. The piece stands beside it: a struct that held the lent piece would have to say in
-// each clause that it still holds the same one.
+// How many bytes are still to be skipped, and where the next one goes.
+// The piece stands beside it: a struct that held the lent piece would have to say in each clause that it still holds the same one.
 #[derive(Clone, Copy, Debug, PartialEq, Eq)]
 pub struct Place {
     pub skip: usize,
