@@ -17,68 +17,68 @@ fn page_of(text: &[u16], spans: &[u32], count: usize) -> Page {
 }
 
 // A line is read as these arguments, each with a line feed behind it.
-pub fn reads(rt: &impl Print, line: &str, stated: &str) -> io::Result<()> {
+pub fn reads(rt: &impl Print, line: &[u8], stated: &[u8]) -> io::Result<()> {
     let mut units = [0u16; 64];
     let mut text = [0u16; 64];
     let mut spans = [0u32; 32];
-    let n = widen(line.as_bytes(), &mut units);
+    let n = widen(line, &mut units);
     match reading::parse_lp_cmd_line(&units[..n], &[], &mut text, &mut spans) {
         Ok(Arguments { count, .. }) => {
             let page = page_of(&text, &spans, count);
-            compare(rt, "read", line, &page, stated)
+            compare(rt, b"read ", line, page.bytes(), stated)
         }
-        Err(_) => verdict(rt, "read", line, false),
+        Err(_) => verdict(rt, b"read ", line, false),
     }
 }
 
 // The verdict where a builder should have written this line.
 fn written(
     rt: &impl Print,
-    verb: &str,
-    arg: &str,
+    verb: &[u8],
+    arg: &[u8],
     built: Result<Line, Refusal>,
     out: &[u16],
-    stated: &str,
+    stated: &[u8],
 ) -> io::Result<()> {
     let line = built.ok().and_then(|line| front(out, line.units));
     match line {
-        Some(page) => compare(rt, verb, arg, &page, stated),
+        Some(page) => compare(rt, verb, arg, page.bytes(), stated),
         None => verdict(rt, verb, arg, false),
     }
 }
 
 // Program `exe` and one regular argument are written as this line.
-pub fn writes(rt: &impl Print, arg: &str, stated: &str) -> io::Result<()> {
+pub fn writes(rt: &impl Print, arg: &[u8], stated: &[u8]) -> io::Result<()> {
     let program = b"exe".map(u16::from);
     let mut text = [0u16; 32];
     let mut out = [0u16; 96];
-    let n = widen(arg.as_bytes(), &mut text);
+    let n = widen(arg, &mut text);
     let records = [0, 0, n as u32];
     let built = building::make_command_line(&program, &records, &text, false, &mut out);
-    written(rt, "write", arg, built, &out, stated)
+    written(rt, b"write ", arg, built, &out, stated)
 }
 
 // The batch line of script `a.bat` and one regular argument.
-fn batch_line(arg: &str, out: &mut [u16]) -> Result<Line, Refusal> {
+fn batch_line(arg: &[u8], out: &mut [u16]) -> Result<Line, Refusal> {
     let script = b"a.bat".map(u16::from);
     let mut text = [0u16; 32];
-    let n = widen(arg.as_bytes(), &mut text);
+    let n = widen(arg, &mut text);
     let records = [0, 0, n as u32];
     building::make_bat_command_line(&script, &records, &text, false, out)
 }
 
 // Script `a.bat` and one regular argument are written as this batch line.
-pub fn batches(rt: &impl Print, arg: &str, stated: &str) -> io::Result<()> {
+pub fn batches(rt: &impl Print, arg: &[u8], stated: &[u8]) -> io::Result<()> {
     let mut out = [0u16; 96];
     let built = batch_line(arg, &mut out);
-    written(rt, "batch", arg, built, &out, stated)
+    written(rt, b"batch ", arg, built, &out, stated)
 }
 
 // One regular argument of a batch line is refused so.
-pub fn batch_refused(rt: &impl Print, arg: &str, refusal: Refusal, name: &str) -> io::Result<()> {
+pub fn batch_refused(rt: &impl Print, arg: &[u8], refusal: Refusal, name: &[u8]) -> io::Result<()> {
     let mut out = [0u16; 96];
     let built = batch_line(arg, &mut out);
-    verdict(rt, "batch", name, built == Err(refusal))
+    verdict(rt, b"batch ", name, built == Err(refusal))
 }
 
 // A line of so many units is read into as many, or refused so.
@@ -86,7 +86,7 @@ pub fn limit(
     rt: &impl Print,
     units: usize,
     stated: Result<usize, Refusal>,
-    name: &str,
+    name: &[u8],
 ) -> io::Result<()> {
     let line = [u16::from(b'a'); 32768];
     let mut text = [0u16; 32768];
@@ -97,7 +97,7 @@ pub fn limit(
     let parsed = reading::parse_lp_cmd_line(front, &[], &mut text, &mut spans);
     verdict(
         rt,
-        "read",
+        b"read ",
         name,
         parsed.map(|arguments| arguments.units) == stated,
     )
@@ -111,8 +111,8 @@ pub fn bounds(rt: &impl Print) -> io::Result<()> {
     let built = building::make_command_line(&program, &[0, 0, 4], &text, true, &mut out);
     verdict(
         rt,
-        "write",
-        "four quotes, forced, take 10 units",
+        b"write ",
+        b"four quotes, forced, take 10 units",
         built == Ok(Line { units: 14 }),
     )
 }
@@ -126,8 +126,8 @@ pub fn unchanged(rt: &impl Print) -> io::Result<()> {
     let built = building::make_command_line(&program, &[0, 0, 1, 0, 1, 1], &text, false, &mut out);
     verdict(
         rt,
-        "write",
-        "a, NUL is refused by 5, place 2, and the output is as it was",
+        b"write ",
+        b"a, NUL is refused by 5, place 2, and the output is as it was",
         built == Err(Refusal::Nul(2)) && out == before,
     )
 }

@@ -29,13 +29,13 @@ const CPP_TABLE: [(&str, &str); 2] = [
 // The document's examples that carry no mark.
 fn unmarked(rt: &impl Print) -> Result<()> {
     println!(rt; "The document's unmarked examples")?;
-    reads(rt, "\"a b\"c d", "a bc\nd\n")?;
-    limit(rt, 32767, Ok(32767), "a line of 32,767 units")?;
+    reads(rt, b"\"a b\"c d", b"a bc\nd\n")?;
+    limit(rt, 32767, Ok(32767), b"a line of 32,767 units")?;
     limit(
         rt,
         32768,
         Err(Refusal::Length),
-        "a line of 32,768 units is refused by 2",
+        b"a line of 32,768 units is refused by 2",
     )?;
     bounds(rt)
 }
@@ -43,19 +43,19 @@ fn unmarked(rt: &impl Print) -> Result<()> {
 // The document's "Errors easily made".
 fn errors(rt: &impl Print) -> Result<()> {
     println!(rt; "Errors easily made")?;
-    reads(rt, "exe a \"\"", "exe\na\n\n")?;
-    reads(rt, "a\\\"b c\" d", "a\\b c\nd\n")?;
-    writes(rt, "a\\\\b", "\"exe\" a\\\\b")?;
+    reads(rt, b"exe a \"\"", b"exe\na\n\n")?;
+    reads(rt, b"a\\\"b c\" d", b"a\\b c\nd\n")?;
+    writes(rt, b"a\\\\b", b"\"exe\" a\\\\b")?;
     batches(
         rt,
-        "a\"b",
-        "cmd.exe /e:ON /v:OFF /d /c \"\"a.bat\" \"a\"\"b\"\"",
+        b"a\"b",
+        b"cmd.exe /e:ON /v:OFF /d /c \"\"a.bat\" \"a\"\"b\"\"",
     )?;
     batch_refused(
         rt,
-        "\0\r",
+        b"\0\r",
         Refusal::LineBreak(1),
-        "NUL, CR is refused by 6, place 1",
+        b"NUL, CR is refused by 6, place 1",
     )?;
     unchanged(rt)
 }
@@ -64,7 +64,7 @@ fn errors(rt: &impl Print) -> Result<()> {
 fn table(rt: &impl Print, name: &str, rows: &[(&str, &str)]) -> Result<()> {
     println!(rt; "Microsoft: {name}")?;
     for &(line, stated) in rows {
-        reads(rt, line, stated)?;
+        reads(rt, line.as_bytes(), stated.as_bytes())?;
     }
     Ok(())
 }

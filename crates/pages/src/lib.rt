@@ -56,12 +56,20 @@ pub fn front(out: &[u16], units: usize) -> Option<Page> {
 }
 
 // A verdict on an example, behind its name.
-pub fn verdict(rt: &impl Print, verb: &str, name: &str, holds: bool) -> Result<()> {
+pub fn verdict(rt: &impl Print, verb: &[u8], name: &[u8], holds: bool) -> Result<()> {
+    rt.write_all(verb)?;
+    rt.write_all(name)?;
     let outcome = if holds { "equal" } else { "DIFFERS" };
-    println!(rt; "{verb} {name}: {outcome}")
+    println!(rt; ": {outcome}")
 }
 
-// The verdict where a page should hold this text.
-pub fn compare(rt: &impl Print, verb: &str, name: &str, page: &Page, stated: &str) -> Result<()> {
-    verdict(rt, verb, name, page.bytes() == stated.as_bytes())
+// The verdict where a page should hold these bytes.
+pub fn compare(
+    rt: &impl Print,
+    verb: &[u8],
+    name: &[u8],
+    page: &[u8],
+    stated: &[u8],
+) -> Result<()> {
+    verdict(rt, verb, name, page == stated)
 }

@@ -46,7 +46,7 @@ fn take_words(
     while at <= line.len() {
         let end = word_end(line, at);
         let shape = shape_at(letters, i)?;
-        held = take_word(shape, &line[at..end], text, numbers, held)?;
+        held = take_word(Some(shape), &line[at..end], text, numbers, held)?;
         at = end + 1;
         i += 1;
     }

@@ -58,19 +58,19 @@ fn take_pair(
     take_field(back, &word[colon + 1..], text, numbers, held)
 }
 
-// A word of a shape.
+// A word of a shape, or of none, which is no word.
 #[tactic(auto, unfolding(crate::specs::Shape::shape_on))]
 pub fn take_word(
-    shape: Shape,
+    shape: Option<Shape>,
     word: &[u8],
     text: &mut [u16],
     numbers: &mut [u32],
     h: Held,
 ) -> Option<Held>
     requires { Room h (length word.now) (length text.old) (length numbers.old) }
-    ensures { Grew (shape_on (Some shape) (held_in h text.old numbers.old) word.now) (length word.now) h result text.new numbers.new }
+    ensures { Grew (shape_on shape (held_in h text.old numbers.old) word.now) (length word.now) h result text.new numbers.new }
 {
-    match shape {
+    match shape? {
         Shape::One(field) => take_field(field, word, text, numbers, h),
         Shape::Two(front, back) => take_pair(front, back, word, text, numbers, h),
     }
