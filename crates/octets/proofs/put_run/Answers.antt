@@ -15,7 +15,7 @@ pub loop-i-preserved : goal.loop-i-preserved
 loop-i-preserved c =
     let l = c.loop-i in
     let at = c.args.at in
-    let turn = copy_turn l.out (at + l.i) l.i _ c.loop-i-test.true in
+    let turn = copy_turn l.out (at + l.i) l.i c.args.run.now c.loop-i-test.true in
     let next : at + (l.i + 1) ≡ at + l.i + 1 = omega arith in
     (c.put.auto.out ∙ l.invariant.0, rw (next, c.put.ensures) (sym turn ∙ l.invariant.1))
 
