@@ -1,14 +1,7 @@
 // Parts of a lent text that a record names.
-ghost use Rattle.std.specs.Prelude.{◌≡◌, min};
+ghost use Rattle.std.specs.Prelude.{◌≡◌};
 ghost use Rattle.rules.specs.Record.{part};
 ghost use Rattle.units.specs.Part.{Named};
-
-// The smaller of two numbers.
-pub fn smaller(a: usize, b: usize) -> usize
-    ensures { result ≡ min a b }
-{
-    a.min(b)
-}
 
 // The part from a start on, as long as a length. What exceeds the text is cut off, so that no caller has to know that it lies within.
 pub fn part_at(text: &[u16], start: usize, len: usize) -> &[u16]
