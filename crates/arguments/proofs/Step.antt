@@ -168,11 +168,6 @@ module _ (rest before : List ℕ) (here : Point) (k : ℕ) (e : k ≡ leading is
         stores = w ∙ rw (m, stored, length-replicate);
       })
 
-  -- an even run before a quote mark, which is left
-  pub halved : {after : List ℕ} → starts_with is_quote behind ≡ true → (k % 2 ≡ 1 → ⊥) → after ≡ sets before here.units (replicate (k / 2) 92)
-      → Stepped slashes_here here before after (record { used = here.used + k; units = here.units + k / 2; quoted = here.quoted })
-  halved u o w = rw (← e, u, ne_eqb _ _ o) (record { uses = refl; counts = rw length-replicate; turns = refl; stores = w })
-
 -- ---- any step, by the unit that stands there
 
 module _ (rest : List ℕ) (here : Point) (h : here.used < length rest) where

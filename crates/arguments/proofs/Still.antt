@@ -5,7 +5,7 @@ use mathlib.Core.List.{List, [], ◌∷◌}
 use Prim.Native.Nat.{ℕ, ◌+◌, ◌-◌, ◌≤◌, ◌<◌}
 use native.Mathlib.Omega.{arith}
 use lib.ListN.{length, get_or, drop, drop_of_length-le, length-append, length-drop}
-use lib.Seq.{sets, length-sets, drop-drop}
+use lib.Seq.{sets, drop-drop}
 use Rattle.laws.specs.Store.{sets_append}
 use Rattle.arguments.specs.Next.{Next, with_front, OneRead}
 use Rattle.laws.specs.Run.{at}
@@ -23,10 +23,6 @@ pub starts : {f : Bool → List ℕ → Next} (rest before : List ℕ) → Still
 starts rest before = record { behind = refl; counts = omega arith; stores = refl; within = omega arith; few = omega arith }
 
 module _ {f : Bool → List ℕ → Next} {rest before out : List ℕ} {i n : ℕ} {q : Bool} (r : Still f rest before out i n q) where
-  -- the output keeps its length
-  pub same_length : length out ≡ length before
-  same_length = sym (length-sets out n (f q (drop i rest)).argument) ∙ ap length r.stores ∙ length-sets before 0 (f false rest).argument
-
   -- a step more: so many units give these, and the argument goes on behind them
   pub goes : {after : List ℕ} {q' : Bool} (used : ℕ) (given : List ℕ) → f q (drop i rest) ≡ with_front given (f q' (drop used (drop i rest))) → used ≤ length (drop i rest)
       → length given ≤ used → after ≡ sets out n given → Still f rest before after (i + used) (n + length given) q'

@@ -4,7 +4,6 @@ use borrow.Author.Tests.{lt-ltb, le-ltb, ltb-true, ltb-false}
 use mathlib.Core.Bool.{Bool, true, false}
 use lib.Dec.{ltb}
 use Rattle.rules.specs.Choice.{pick}
-use native.Mathlib.Nat.{zero-add}
 use native.Mathlib.Numerals.{add-one}
 use native.Mathlib.Omega.{arith}
 use mathlib.Core.Path.{◌≡◌, refl, sym, ap, ◌∙◌}
@@ -41,10 +40,6 @@ pub record Putting (limit : ℕ) (all rest : List Entry) (before out : List ℕ)
   pub counts : to + length (until_past limit to rest) ≡ length (until_past limit 0 all)
   pub stores : sets out to (until_past limit to rest) ≡ sets before 0 (until_past limit 0 all)
   pub same : length out ≡ length before
-
--- at the start all are
-pub none_put : (limit : ℕ) (all : List Entry) (out : List ℕ) → Putting limit all all out out 0
-none_put limit all out = record { below = zero-le; counts = zero-add _; stores = refl; same = refl }
 
 module _ {limit : ℕ} {all rest : List Entry} {before out : List ℕ} {to : ℕ} (putting : Putting limit all rest before out to) where
   -- nothing is left

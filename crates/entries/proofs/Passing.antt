@@ -7,7 +7,7 @@ use borrow.Author.Tests.{eqb-true, ne_eqb}
 use mathlib.Core.Path.{◌≡◌, refl, sym, ap, ◌∙◌}
 use mathlib.Core.Bool.{Bool, true, false}
 use mathlib.Core.List.{List, [], ◌∷◌, ◌++◌, map}
-use lib.ListN.{length, length-append, get_or, drop, set, drop_of_length-le}
+use lib.ListN.{length, length-append, get_or, drop, drop_of_length-le}
 use lib.Seq.{sets, drop-cons, drop-drop}
 use Rattle.rules.specs.Unit.{nul}
 use Rattle.rules.specs.Choice.{pick}
@@ -76,15 +76,6 @@ one_walked {lent} {before} {table} {table'} {at} {count} {key} {value} p s t =
           ∙ sym (last_units es e (drop (at + (key + value + 2)) lent));
       stored = t ∙ rw (p.stored, spans, sets_append before 0 (entry_spans es) (at ∷ key ∷ (at + key + 1) ∷ value ∷ []), n, zero-add);
     }
-
--- four numbers stored one after the other
-pub entry_stored : (t : List ℕ) (i a b c d : ℕ) {t₁ t₂ t₃ t₄ : List ℕ} → t₁ ≡ set t (4 * i) a → t₂ ≡ set t₁ (4 * i + 1) b → t₃ ≡ set t₂ (4 * i + 2) c
-    → t₄ ≡ set t₃ (4 * i + 3) d → t₄ ≡ sets t (4 * i) (a ∷ b ∷ c ∷ d ∷ [])
-entry_stored t i a b c d h₁ h₂ h₃ h₄ =
-    let e₁ : 4 * i + 1 ≡ suc (4 * i) = omega arith in
-    let e₂ : 4 * i + 2 ≡ suc (suc (4 * i)) = omega arith in
-    let e₃ : 4 * i + 3 ≡ suc (suc (suc (4 * i))) = omega arith in
-    rw (h₄, h₃, h₂, h₁, e₁, e₂, e₃)
 
 -- ---- what is told then
 
@@ -191,7 +182,3 @@ pub second_nul : (lent : List ℕ) → 2 ≤ length lent → get_or lent 1 0 ≡
 second_nul [] h z = absurd (omega arith)
 second_nul (x ∷ []) h z = absurd (omega arith)
 second_nul (x ∷ y ∷ ys) h z = rw z
-
--- the rest from a place on, where no NUL stands
-pub rest_starts : (lent : List ℕ) (at : ℕ) → at < length lent → ¬ (get_or lent at 0 ≡ 0) → starts_with_nul (drop at lent) ≡ false
-rest_starts lent at l n = ap starts_with_nul (drop-cons lent at 0 l) ∙ ne_eqb (get_or lent at 0) 0 n

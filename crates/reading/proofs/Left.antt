@@ -70,10 +70,6 @@ starts line text spans n i b e h l = record {
 }
 
 module _ {line text₀ spans₀ : List ℕ} {n₀ count₀ i₀ : ℕ} {text spans : List ℕ} {n count i : ℕ} (r : Laying line text₀ spans₀ n₀ count₀ i₀ text spans n count i) where
-  -- the text keeps its length
-  pub text_length : length text ≡ length text₀
-  text_length = sym (length-sets text n (joined (left line i))) ∙ ap length r.stores ∙ length-sets text₀ n₀ (joined (left line i₀))
-
   -- the table keeps its length
   pub spans_length : length spans ≡ length spans₀
   spans_length = sym (length-sets spans (2 * count) (spans_from n (left line i))) ∙ ap length r.tabulates ∙ length-sets spans₀ (2 * count₀) (spans_from n₀ (left line i₀))

@@ -1,5 +1,5 @@
 -- A text of two parts written whole, or refused for want of room. Assumes nothing.
-use Rattle.std.specs.Prelude.{Ok, Err}
+use Rattle.std.specs.Prelude.{Ok}
 use Prim.Native.Nat.{ℕ, ◌+◌, ◌-◌, ◌≤◌, ◌<◌, ◌^◌}
 use native.Mathlib.Nat.{zero-add}
 use native.Mathlib.Omega.{arith}
@@ -9,7 +9,6 @@ use lib.ListN.{length, take, drop, length-append}
 use lib.Seq.{sets}
 use borrow.Author.Tests.{lt-ltb, le-ltb}
 use Rattle.laws.specs.Store.{sets_append, sets_front, part_is}
-use Rattle.rules.specs.declared.Refusal.TheVariants as Refusal
 use Rattle.rules.specs.Answer.{Answered, Said, filled_said}
 use Rattle.rules.specs.Unit.{units}
 use Rattle.rules.specs.Status.{status_text, status_front, status_outcome}
@@ -17,12 +16,6 @@ use Rattle.status.specs.Text.{DigitsLaid, fitted}
 use Rattle.status.proofs.Laying.{enough}
 
 module _ (front digits before : List ℕ) where
-  -- no room
-  pub no_room : length before < length front + length digits → Answered (fitted (front ++ digits) (length before)) (filled_said (Err Refusal.Room)) before before
-  no_room h =
-      let l : length before < length (front ++ digits) = rw length-append h in
-      rw (lt-ltb (length before) (length (front ++ digits)) l) (record { says = refl; leaves = refl })
-
   -- room enough
   pub room : (middle after : List ℕ) → length front + length digits ≤ length before → middle ≡ sets before 0 front → after ≡ sets middle (length front) digits
       → Answered (fitted (front ++ digits) (length before)) (filled_said (Ok (length front + length digits))) before after

@@ -11,7 +11,6 @@ use Rattle.laws.specs.Run.{RunAt, part_run, run_at, starts_with, stops_at}
 use Rattle.arguments.specs.Run.{is_kept}
 use Rattle.arguments.specs.Next.{first_argument}
 use Rattle.arguments.proofs.First as F
-use Rattle.arguments.proofs.Still as still
 use Rattle.arguments.proofs.Still.{Still}
 use Rattle.arguments.proofs.read_first.Goals.{After-kept_run-run}
 use Rattle.arguments.proofs.read_first.Goals as goal
@@ -37,9 +36,6 @@ overflow_add-end c = omega (arith, run_is c)
 pub slice_bounds-copy_run-end : goal.slice_bounds-copy_run-end
 slice_bounds-copy_run-end c = omega (arith, run_is (goal.at.slice_bounds-copy_run-end c).After-kept_run-run)
 
-pub overflow_add-n : goal.overflow_add-n
-overflow_add-n c = omega (arith, run_is (goal.at.overflow_add-n c).After-kept_run-run)
-
 pub returns-in-None : goal.returns-in-None
 returns-in-None c =
     let g = c.in-None.ensures.lookup in
@@ -55,9 +51,6 @@ pub loop-i-preserved : goal.loop-i-preserved
 loop-i-preserved c =
     let g = c.in-Some-eq34.ensures.lookup in
     F.toggles (kept c.loop-i.invariant (run_is (goal.at.loop-i-preserved c).After-kept_run-run) c.copy_run.ensures) (grind (arith, nat_tests, g)) (grind (arith, nat_tests, g))
-
-pub loop-i-init : goal.loop-i-init
-loop-i-init c = still.starts _ _
 
 pub returns : goal.returns
 returns c = F.finishes c.loop-i.invariant c.loop-i-test.false

@@ -15,16 +15,10 @@ taken c =
     let h = c.loop-here.here in
     steps_at h.quoted _ h.used c.loop-here-test.true (sym c.is_end.ensures ∙ c.if-is_end.false)
 
-pub loop-here-init : goal.loop-here-init
-loop-here-init c = still.starts _ _
-
 pub returns-then-is_end : goal.returns-then-is_end
 returns-then-is_end c =
     let h = c.loop-here.here in
     still.stops c.loop-here.invariant c.loop-here-test.true (stops h.quoted (get_or c.args.rest.now h.used 0) _ (sym c.is_end.ensures ∙ c.if-is_end.true))
-
-pub read_step-here-requires : goal.read_step-here-requires
-read_step-here-requires c = (c.loop-here-test.true, c.loop-here.invariant.few)
 
 pub loop-here-smaller : goal.loop-here-smaller
 loop-here-smaller c =

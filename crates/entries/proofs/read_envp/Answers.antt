@@ -1,5 +1,4 @@
 -- `entries::read_envp` meets its contract. Assumes nothing.
-use native.Mathlib.Omega.{arith}
 use Rattle.std.proofs.lemmas.Result.{err_from_is_err_and}
 use Rattle.rules.specs.Block.{block_limit}
 use Rattle.entries.proofs.Answering.{by_length, by_entry, by_places, by_entries}
@@ -24,10 +23,6 @@ unfolding block_limit
 returns-in_err-need c =
     let p = err_from_is_err_and c.from_residual.result c.from_residual.ensures.1 in
     rw (p.1, p.2) (by_entry c.args.block.now c.args.spans.now c.if-block-gt-BLOCK_LIMIT.false c.in_err-need.ensures.told)
-
-pub overflow_mul-need : goal.overflow_mul-need
-unfolding block_limit
-overflow_mul-need c = omega (arith, (counted (goal.at.overflow_mul-need c).In_ok-need).few, c.if-block-gt-BLOCK_LIMIT.false)
 
 pub returns-then-spans-need : goal.returns-then-spans-need
 unfolding block_limit

@@ -3,9 +3,6 @@ use mathlib.Core.Path.{refl}
 use Rattle.reading.proofs.Outcome.{all_housed, gives}
 use Rattle.reading.proofs.read_at_once.Goals as goal
 
-pub lay_line-requires : goal.lay_line-requires
-lay_line-requires c = c.requires.0
-
 pub returns : goal.returns
 returns c =
     let h = c.requires.1 in gives (all_housed _ _ _ h) c.lay_line.ensures refl refl h.text h.places

@@ -21,8 +21,3 @@ returns-then-text-need c =
     refl
     refl
     refl
-
-pub read_at_once-requires : goal.read_at_once-requires
-read_at_once-requires c =
-    let m = c.lay_line-need.ensures in
-    (c.requires, record { places = omega (arith, m.counts, c.if-spans-need.false); text = omega (arith, m.measures, c.if-text-need.false) })

@@ -1,9 +1,6 @@
 -- `status::answer` meets its contract. Assumes nothing.
-use Rattle.status.proofs.Fitting.{no_room, room}
+use Rattle.status.proofs.Fitting.{room}
 use Rattle.status.proofs.answer.Goals as goal
-
-pub returns-then-out-units : goal.returns-then-out-units
-returns-then-out-units c = let a = c.args in no_room a.front.now a.digits.now a.out.now c.if-out-units.true
 
 pub returns : goal.returns
 returns c =

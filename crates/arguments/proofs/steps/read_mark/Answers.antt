@@ -1,20 +1,9 @@
 -- `arguments::steps::read_mark` meets its contract. Assumes nothing.
-use Rattle.arguments.proofs.Step.{closes, doubles, opens, stays}
-use borrow.Author.Tests.{not-false, not-true}
+use Rattle.arguments.proofs.Step.{closes, doubles}
+use borrow.Author.Tests.{not-false}
 use native.Mathlib.Omega.{arith}
 use Rattle.std.proofs.lemmas.Bool.Decides.{nat_tests}
 use Rattle.arguments.proofs.steps.read_mark.Goals as goal
-
-pub returns-then-not-here : goal.returns-then-not-here
-returns-then-not-here c =
-    let a = c.args in
-    opens a.rest.now a.out.now a.here (not-true a.here.quoted c.if-not-here.true)
-
-pub returns-in-None : goal.returns-in-None
-returns-in-None c =
-    let a = c.args in
-    let g = c.in-None.ensures.lookup in
-    stays a.rest.now a.out.now a.here (not-false a.here.quoted c.if-not-here.false) (grind (arith, nat_tests, g))
 
 pub returns-in-Some-eq34 : goal.returns-in-Some-eq34
 returns-in-Some-eq34 c =

@@ -9,7 +9,7 @@ use lib.Seq.{drop-drop}
 use Rattle.rules.specs.Unit.{is_backslash, is_quote}
 use Rattle.laws.specs.Store.{part_is}
 use Rattle.laws.specs.Run.{RunAt, run_at, starts_with}
-use Rattle.arguments.proofs.Step.{escaped, halved, literal}
+use Rattle.arguments.proofs.Step.{escaped}
 use Rattle.arguments.proofs.steps.read_slashes.Goals.{After-backslashes-k}
 use Rattle.arguments.proofs.steps.read_slashes.Goals as goal
 
@@ -36,29 +36,11 @@ slice_bounds-starts_with_quote-start c = omega (arith, run_is (goal.at.slice_bou
 pub overflow_add-result : goal.overflow_add-result
 overflow_add-result c = omega (arith, run_is (goal.at.overflow_add-result c).After-backslashes-k)
 
-pub returns-then-not-starts_with_quote : goal.returns-then-not-starts_with_quote
-returns-then-not-starts_with_quote c =
-    let a = c.args in
-    let r = run_is (goal.at.returns-then-not-starts_with_quote c).After-backslashes-k in
-    literal a.rest.now a.out.now a.here _ r.0 (quote_is a.rest.now a.here.used _ c.starts_with_quote.ensures ∙ c.if-not-starts_with_quote.true) c.repeat.ensures
-
-pub overflow_add-units : goal.overflow_add-units
-overflow_add-units c = omega (arith, run_is (goal.at.overflow_add-units c).After-backslashes-k)
-
 pub overflow_add-result-then-k-eq1 : goal.overflow_add-result-then-k-eq1
 overflow_add-result-then-k-eq1 c = omega (arith, run_is (goal.at.overflow_add-result-then-k-eq1 c).After-backslashes-k)
-
-pub overflow_add-result-then-k-eq1-2 : goal.overflow_add-result-then-k-eq1-2
-overflow_add-result-then-k-eq1-2 c = omega (arith, run_is (goal.at.overflow_add-result-then-k-eq1-2 c).After-backslashes-k)
 
 pub returns-then-k-eq1 : goal.returns-then-k-eq1
 returns-then-k-eq1 c =
     let a = c.args in
     let r = run_is (goal.at.returns-then-k-eq1 c).After-backslashes-k in
     escaped a.rest.now a.out.now a.here _ r.0 (quote_is a.rest.now a.here.used _ c.starts_with_quote.ensures ∙ c.if-not-starts_with_quote.false) c.if-k-eq1.true c.repeat-2.ensures c.put.ensures
-
-pub returns-else-k-eq1 : goal.returns-else-k-eq1
-returns-else-k-eq1 c =
-    let a = c.args in
-    let r = run_is (goal.at.returns-else-k-eq1 c).After-backslashes-k in
-    halved a.rest.now a.out.now a.here _ r.0 (quote_is a.rest.now a.here.used _ c.starts_with_quote.ensures ∙ c.if-not-starts_with_quote.false) c.if-k-eq1.false c.repeat-2.ensures

@@ -28,9 +28,6 @@ overflow_add-end c = omega (arith, run_is c)
 pub slice_bounds-copy_run-end : goal.slice_bounds-copy_run-end
 slice_bounds-copy_run-end c = omega (arith, run_is (goal.at.slice_bounds-copy_run-end c).After-plain_run-run)
 
-pub overflow_add-result : goal.overflow_add-result
-overflow_add-result c = omega (arith, run_is (goal.at.overflow_add-result c).After-plain_run-run)
-
 pub returns-in_default : goal.returns-in_default
 returns-in_default c =
     let a = c.args in

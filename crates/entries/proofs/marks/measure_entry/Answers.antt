@@ -42,18 +42,6 @@ offset_bounds-rest-key c = omega (arith, inside (goal.at.offset_bounds-rest-key 
 pub bounds-rest-key : goal.bounds-rest-key
 bounds-rest-key c = omega (arith, inside (goal.at.bounds-rest-key c).After-find_near, c.if-key-rest.false)
 
-pub overflow_add-from : goal.overflow_add-from
-overflow_add-from c = omega (arith, inside (goal.at.overflow_add-from c).After-find_near)
-
-pub offset_bounds-rest-from : goal.offset_bounds-rest-from
-offset_bounds-rest-from c = omega (arith, inside (goal.at.offset_bounds-rest-from c).After-find_near)
-
-pub slice_bounds-find_nul-count : goal.slice_bounds-find_nul-count
-slice_bounds-find_nul-count c = omega (arith, inside (goal.at.slice_bounds-find_nul-count c).After-find_near, c.if-key-rest.false)
-
-pub slice_bounds-find_nul-start : goal.slice_bounds-find_nul-start
-slice_bounds-find_nul-start c = omega (arith, inside (goal.at.slice_bounds-find_nul-start c).After-find_near, c.if-key-rest.false)
-
 pub overflow_add-from-2 : goal.overflow_add-from-2
 overflow_add-from-2 c =
     omega (arith, end_inside _ _ (begun (goal.at.overflow_add-from-2 c).After-find_near) c.if-key-rest.false _ (found c))

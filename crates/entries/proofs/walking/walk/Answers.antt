@@ -8,7 +8,7 @@ use Rattle.laws.specs.Store.{part_is}
 use Rattle.entries.specs.Measured.{Stands}
 use Rattle.laws.specs.BadEntry.{Cause}
 use Rattle.entries.proofs.Passing.{none_walked, walked_few, stands_inside, one_walked}
-use Rattle.entries.proofs.Passing.{bad_met, ended, final_met, nothing_walked, none_read, rest_starts, anyway}
+use Rattle.entries.proofs.Passing.{bad_met, ended, final_met, nothing_walked, none_read, anyway}
 use borrow.Author.Rules.{rules}
 use Rattle.entries.proofs.walking.walk.Goals.{In-Some}
 use Rattle.entries.proofs.walking.walk.Goals as goal
@@ -23,11 +23,6 @@ inside c = omega (arith, c.loop-at.invariant.0, stands_inside (stands c), length
 pub loop-at-init : goal.loop-at-init
 loop-at-init c = (search rules, refl, none_walked _ _)
 
-pub no_entries-requires : goal.no_entries-requires
-no_entries-requires c =
-    let l = c.loop-at in
-    (nothing_walked l.invariant.2 c.if-count-eq0.true c.loop-at-test.true c.if-block-at-eq-NUL.true).0
-
 pub returns-then-count-eq0 : goal.returns-then-count-eq0
 returns-then-count-eq0 c =
     let none = nothing_walked c.loop-at.invariant.2 c.if-count-eq0.true c.loop-at-test.true c.if-block-at-eq-NUL.true in
@@ -37,13 +32,6 @@ pub returns-then-block-at-eq-NUL : goal.returns-then-block-at-eq-NUL
 returns-then-block-at-eq-NUL c =
     let (told, stored) = final_met c.loop-at.invariant.2 c.loop-at-test.true c.if-block-at-eq-NUL.true c.if-count-eq0.false in
     record { told = told; stores = stored }
-
-pub measure_entry-requires : goal.measure_entry-requires
-measure_entry-requires c =
-    let more = c.loop-at-test.true in
-    let block = c.args.block.now in
-    let at = c.loop-at.at in
-    rw (part_is at block) (omega (arith, more, length-drop at block), rest_starts block at more c.if-block-at-eq-NUL.false)
 
 pub overflow_add-count : goal.overflow_add-count
 unfolding block_limit
@@ -69,18 +57,6 @@ put_entry-requires c =
     let fits = inside (goal.at.put_entry-requires c).In-Some in
     let few = walked_few c.loop-at.invariant.2 in
     (omega arith, omega arith, omega arith, omega arith)
-
-pub overflow_add-at : goal.overflow_add-at
-overflow_add-at c = omega (arith, inside (goal.at.overflow_add-at c).In-Some)
-
-pub overflow_add-at-in-loop-at : goal.overflow_add-at-in-loop-at
-overflow_add-at-in-loop-at c = omega (arith, inside (goal.at.overflow_add-at-in-loop-at c).In-Some)
-
-pub overflow_add-at-in-loop-at-2 : goal.overflow_add-at-in-loop-at-2
-overflow_add-at-in-loop-at-2 c = omega (arith, inside (goal.at.overflow_add-at-in-loop-at-2 c).In-Some)
-
-pub loop-at-smaller : goal.loop-at-smaller
-loop-at-smaller c = omega (arith, inside (goal.at.loop-at-smaller c).In-Some)
 
 pub loop-at-preserved : goal.loop-at-preserved
 loop-at-preserved c =

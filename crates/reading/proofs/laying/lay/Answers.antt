@@ -1,10 +1,9 @@
 -- `reading::laying::lay` meets its contract. Assumes nothing.
-use Prim.Native.Nat.{◌<◌, min}
+use Prim.Native.Nat.{min}
 use mathlib.Core.Path.{◌≡◌}
 use borrow.Author.Rules.{rules}
 use Rattle.std.proofs.lemmas.Bool.Decides.{nat_tests}
-use native.Mathlib.Omega.{arith}
-use lib.ListN.{drop, length, length-drop}
+use lib.ListN.{length}
 use Rattle.laws.specs.Store.{back_is, part_is}
 use Rattle.reading.proofs.Left as Y
 use Rattle.reading.proofs.Left.{Laying}
@@ -14,14 +13,6 @@ pub loop-i-init : goal.loop-i-init
 loop-i-init c =
     let m = c.read_first-first in
     Y.starts _ _ _ _ _ _ c.skip_blanks-i.ensures.0 c.skip_blanks-i.ensures.1 m.ensures.few
-
-pub loop-i-smaller : goal.loop-i-smaller
-loop-i-smaller c =
-    let m = c.read_later-took in
-    let l = c.loop-i in
-    let line = c.args.line.now in
-    let some : 0 < length (drop l.i line) = rw length-drop (omega (arith, c.loop-i-test.true)) in
-    omega (arith, c.loop-i-test.true, (rw (part_is l.i line) at m.ensures).some some, c.skip_blanks-i-in-loop-i.ensures)
 
 pub loop-i-preserved : goal.loop-i-preserved
 loop-i-preserved c =

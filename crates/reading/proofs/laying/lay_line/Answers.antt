@@ -1,14 +1,8 @@
 -- `reading::laying::lay_line` meets its contract. Assumes nothing.
-use native.Mathlib.Omega.{arith}
 use borrow.Author.Tests.{tests}
 use borrow.Author.Rules.{rules}
 use Rattle.reading.proofs.Outcome.{line_laid, name_laid}
 use Rattle.reading.proofs.laying.lay_line.Goals as goal
-
-pub put_span-requires : goal.put_span-requires
-put_span-requires c =
-    let short = c.requires.1 (search (rules, tests)) in
-    omega arith
 
 pub returns-then-is_empty : goal.returns-then-is_empty
 returns-then-is_empty c = name_laid _ _ (search (rules, tests)) c.copy_run.ensures c.put_span.ensures
