@@ -55,7 +55,8 @@ fn close(work: Work, lent: &[u16], out: &mut [u16]) -> Result<Turn, Refusal>
     }
 }
 
-// One turn: the next record of the pass, or where none is left the stage behind it. Then the record is not looked at.
+// One turn: the next record of the pass, or where none is left the stage behind it. Then the record is not looked at: it is no Option, because the count in
+// the state says whether one is left, and so keeps the index from wrapping.
 pub fn turn(
     work: Work,
     arg: Arg,

@@ -23,7 +23,8 @@ fn record_at(args: &[Arg], index: usize) -> Arg
     }
 }
 
-// Builds a line of either kind. The one loop of this crate: each turn hands on the state by value.
+// Builds a line of either kind. The one loop of this crate: each turn hands on the state by value. `building::lines::build` has the same loop over a flat list:
+// one driver for both would take a closure, and its contract would have to say each of the closure's answers.
 fn make_line_of(
     batch: bool,
     lent: &[u16],
