@@ -25,11 +25,6 @@ apart_plain true b h = (sym h, cc)
 apart_plain false true h = (refl, sym h)
 apart_plain false false h = (refl, refl)
 
--- units with a mark are not plain
-pub marked_not : (a b : Bool) → b ≡ true → false ≡ both (flip a) (flip b)
-marked_not true b h = refl
-marked_not false b h = rw h
-
 -- units without mark are, where the last is no backslash
 pub unmarked : (a b c : Bool) → b ≡ false → c ≡ a → not c ≡ both (flip a) (flip b)
 unmarked a b true h e = rw (h, ← e)
