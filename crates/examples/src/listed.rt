@@ -1,7 +1,7 @@
 // Lines that the entries over a slice of records build, printed: an ordinary line, a batch line, and two refusals.
 use pages::front;
 use rules::{Arg, Line, Refusal};
-use slices::{make_bat_command_line_of_four, make_command_line_of_four};
+use slices::{make_bat_command_line_of, make_command_line_of};
 use std::io;
 use units::refusals::{number_of, place_of};
 
@@ -40,12 +40,12 @@ pub fn print_lines(rt: &impl Print) -> io::Result<()> {
     let mut out = [0u16; 128];
     let mut short = [0u16; 20];
     println!(rt; "Lines from a slice of records")?;
-    let line = make_command_line_of_four(&program, records(0), &text, false, &mut out);
+    let line = make_command_line_of(&program, &records(0), &text, false, &mut out);
     print_answer(rt, line, &out)?;
-    let line = make_bat_command_line_of_four(&script, records(0), &text, true, &mut out);
+    let line = make_bat_command_line_of(&script, &records(0), &text, true, &mut out);
     print_answer(rt, line, &out)?;
-    let line = make_command_line_of_four(&program, records(2), &text, false, &mut out);
+    let line = make_command_line_of(&program, &records(2), &text, false, &mut out);
     print_answer(rt, line, &out)?;
-    let line = make_command_line_of_four(&program, records(0), &text, false, &mut short);
+    let line = make_command_line_of(&program, &records(0), &text, false, &mut short);
     print_answer(rt, line, &short)
 }

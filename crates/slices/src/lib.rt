@@ -71,29 +71,3 @@ pub fn make_bat_command_line_of(
 {
     make_line_of(true, script, args, text, force_quotes, out)
 }
-
-// For tests: four records by value, lent to `make_command_line_of` as a slice.
-pub fn make_command_line_of_four(
-    program: &[u16],
-    args: [Arg; 4],
-    text: &[u16],
-    force_quotes: bool,
-    out: &mut [u16],
-) -> Result<Line, Refusal>
-    ensures { Answered (command_line force_quotes program.now (flat_of args) text.now (length out.old)) (built_said result) out.old out.new }
-{
-    make_command_line_of(program, &args, text, force_quotes, out)
-}
-
-// For tests: four records by value, lent to `make_bat_command_line_of` as a slice.
-pub fn make_bat_command_line_of_four(
-    script: &[u16],
-    args: [Arg; 4],
-    text: &[u16],
-    force_quotes: bool,
-    out: &mut [u16],
-) -> Result<Line, Refusal>
-    ensures { Answered (batch_command_line force_quotes script.now (flat_of args) text.now (length out.old)) (built_said result) out.old out.new }
-{
-    make_bat_command_line_of(script, &args, text, force_quotes, out)
-}
