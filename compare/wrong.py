@@ -33,7 +33,9 @@ VARIANTS = {
         ('NUL tested before CR in a batch argument', 'adding/src/judging.rt',
          [('    if breaks {\n', '    if nul {\n        return Err(Refusal::Nul(place));\n    }\n    if breaks {\n')]),
         ('units written before a later argument is refused', 'building/src/turns.rt',
-         [('            let judged =', '            let early = writing::add_argument(classes, out, units, text, arg, style);\n            let judged =')]),
+         [('        Pass::Units => judging::judge_units(style.batch, text, work.units, at, arg)?,\n',
+           '        Pass::Units => {\n            let _early = writing::add_argument(classes, out, work.units, text, arg, style);\n'
+           '            judging::judge_units(style.batch, text, work.units, at, arg)?\n        }\n')]),
         ('a line built of one unit more than its limit', 'adding/src/limits.rt',
          [('if batch { BATCH_LIMIT } else { LINE_LIMIT }', 'if batch { BATCH_LIMIT + 1 } else { LINE_LIMIT + 1 }')]),
         ('an entry of a block split at its first unit', 'entries/src/marks.rt', [('let second = 1;', 'let second = 0;')]),

@@ -45,6 +45,7 @@ pub fn tell<T: Counted>(given: Result<T, Refusal>, answer: &mut [u64; 4]) -> u32
 }
 
 // What a refusal of a store says.
+// Not one with `tell_refusal`: the header has four numbers there and five here.
 fn tell_unserved(refusal: Refusal, answer: &mut [u64; 5]) -> u32
     ensures { CacheTold (refused (refusal_number refusal) (refusal_place refusal)) result answer.new }
 {

@@ -26,6 +26,7 @@ pub fn make_command_line(
 }
 
 // Builds the line that runs a batch script. In the Rust: `make_bat_command_line`.
+// An entry of its own and no flag, with what is lent one by one: the Rust and the C interface have it so.
 pub fn make_bat_command_line(
     script: &[u16],
     records: &[u32],

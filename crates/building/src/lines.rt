@@ -9,6 +9,7 @@ use rules::{Line, Refusal};
 use units::classes::Classes;
 
 // Builds a line.
+// Two flags and no `Style`: whoever asks for a line has them one by one.
 pub fn build(
     batch: bool,
     lent: &[u16],

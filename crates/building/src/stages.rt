@@ -26,6 +26,7 @@ fn frame_units(batch: bool, name: &[u16]) -> usize
 }
 
 // Behind the record pass: 7, then 5 for program or script. The next one begins with what stands round the arguments.
+// What is lent stands beside the state, here and below: the state goes by value from turn to turn, and what is lent does not.
 pub fn after_records(work: Work, lent: &[u16]) -> Result<Work, Refusal>
     ensures { result ≡ after_records lent.now work }
 {

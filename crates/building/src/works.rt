@@ -25,6 +25,7 @@ pub struct Work {
 }
 
 // What a turn comes to that is not refused: building goes on, or the line is built.
+// No `ControlFlow`: these names say what a turn comes to.
 #[derive(Clone, Copy)]
 pub enum Turn {
     On(Work),

@@ -17,7 +17,7 @@ use units::parts;
 // How many lines a store holds.
 pub const PLACES: usize = 64;
 
-// How many words an index has: room for a word in front, for two words of each of 16 shares and for seven of each entry, of which six are used.
+// How many words an index has, as the header gives it: two in front and six of each entry are used.
 pub const WORDS: usize = 481;
 
 // No entries, and no units that they use.
@@ -37,6 +37,7 @@ pub fn make(index: &mut [u64; WORDS])
 }
 
 // Removes all entries.
+// A name of its own for what `make` does: the header has both.
 pub fn clear(index: &mut [u64; WORDS])
     ensures { Empties index.old index.new }
 {
@@ -44,6 +45,7 @@ pub fn clear(index: &mut [u64; WORDS])
 }
 
 // Looks for the line of a key under a fingerprint.
+// What is lent comes one by one, as the C interface has it; below it is one `Lent`.
 pub fn lookup(
     index: &[u64; WORDS],
     units: &[u16],

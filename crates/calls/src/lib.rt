@@ -71,6 +71,7 @@ pub fn env(rt: &(impl Env + Print)) -> Result<()> {
 }
 
 // The text of a status.
+// Not one with `env_block`: a status text has a refusal of its own, and no limit.
 fn say_status_text(rt: &impl Print, number: u32) -> Result<()> {
     let mut out = [0u16; 32];
     match status::status_text(number, &mut out) {

@@ -7,6 +7,7 @@ use rules::{Arguments, Line, Refusal};
 use std::io;
 
 // The arguments that were read, each with a line feed behind it.
+// A count and an index: the table is longer than what was read, and `reading::argument` takes an index.
 fn page_of(text: &[u16], spans: &[u32], count: usize) -> Page {
     let mut page = Page::new();
     for i in 0..count {

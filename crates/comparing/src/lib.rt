@@ -6,6 +6,7 @@ ghost use Rattle.rules.specs.Choice.{equal};
 ghost use Rattle.rules.specs.Record.{part};
 
 // Whether the four units from a place on are the same in both runs. No branch stands between the tests, so that the machine makes them at once.
+// That both runs have one length is asked of each function and no type's: the one test of it stands in `same_units`.
 fn four_same(a: &[u16], b: &[u16], at: usize) -> bool
     requires { (at + 4 ≤ length a.now) × (at + 4 ≤ length b.now) }
     ensures { result ≡ equal (part a.now at 4) (part b.now at 4) }
@@ -77,6 +78,7 @@ fn parts_same(a: &[u16], b: &[u16]) -> bool
 }
 
 // Whether two runs of units are the same.
+// A leaf and no `==`: how runs of each length are compared is this file.
 pub fn same_units(a: &[u16], b: &[u16]) -> bool
     ensures { result ≡ equal a.now b.now }
 {

@@ -5,6 +5,7 @@ use std::io::Result;
 use units::refusals::{number_of, place_of};
 
 // What a refusal is called.
+// A function and no `Display`: the refusal is declared in `rules`, which has no code of its own.
 fn name_of(refusal: Refusal) -> &'static str {
     match refusal {
         Refusal::Record(_) => "record",

@@ -37,6 +37,7 @@ pub fn units_of(bytes: &[u8], out: &mut [u16]) -> usize
 }
 
 // Reads to the end, or until what is lent is full. A `while` and no iterator: a pipe hands over a part at a time, of a length of its own.
+// A count and no part of the bytes: what is lent to be written goes back whole.
 fn read_all(from: &mut impl Read, bytes: &mut [u8]) -> Result<usize, Cause>
     ensures { IfOk result (λ count. count ≤ length bytes.old) }
 {

@@ -21,6 +21,7 @@ fn no_entries(block: &[u16]) -> Result<Entries, Refusal>
 }
 
 // Start and length of a key and of its value at an entry's places of the table, as far as the table has them.
+// Four numbers of a flat table and no struct: the C interface has it so.
 fn put_entry(spans: &mut [u32], i: usize, start: usize, entry: Sizes)
     requires { (i < 65536) × (start < 65536) × (entry.key < 65536) × (entry.value < 65536) }
     ensures { spans.new ≡ sets spans.old (4 * i) (start ∷ entry.key ∷ (start + entry.key + 1) ∷ entry.value ∷ []) }

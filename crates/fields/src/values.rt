@@ -6,6 +6,7 @@ use crate::taking::HIGH;
 use units::parts::part_of;
 
 // The number at a place.
+// 0 and no Option: the letters of a row say how many numbers there are, so none is missing.
 pub fn number_at(numbers: &[u32], at: usize) -> u32
     ensures { result ≡ get_or numbers.now at 0 }
 {

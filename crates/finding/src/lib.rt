@@ -11,6 +11,7 @@ use keys::matching::is_key;
 use units::parts;
 
 // Where the line of an entry stands in the units of a store.
+// Start and units are fields of `Cached` again, because definitions name them there.
 #[derive(Clone, Copy, Debug, PartialEq, Eq)]
 pub struct Place {
     pub start: usize,
@@ -36,6 +37,7 @@ fn answers(index: &[u64], at: usize, units: &[u16], fingerprint: u64, lent: &Len
 }
 
 // Where its line stands: behind its key.
+// By places and no struct of the words: each is clipped by those before it.
 fn line_at(index: &[u64], at: usize, room: usize) -> Place
     requires { at + 6 ≤ length index.now }
     ensures { result ≡ line_at index.now at room }

@@ -43,6 +43,7 @@ fn is_numeral(word: &[u8]) -> bool
 }
 
 // The number of a word without leading zeros, at most `most`.
+// Not one with what a person types: there a 0 may stand in front.
 #[tactic(auto, unfolding(crate::specs::Number::number_of))]
 pub fn number_of(word: &[u8], most: u64) -> Option<u64>
     ensures { Numbered (number_of most word.now) most result }

@@ -6,16 +6,16 @@ use console::reports::{say_behind, say_bracketed, say_entry};
 use console::room;
 use dumps::{read_word, units_of};
 use entries::{BLOCK_LIMIT, read_envp};
-use rules::Entries;
+use rules::{Entries, Refusal};
 use std::io::Result;
 use terminal::words::arg_count;
 use units::parts::part_of;
-use units::refusals::place_of;
 use unread::{no_file, odd_bytes};
 
 mod unread;
 
 // Each entry on a line of its own. The table has the numbers of all.
+// The count beside the spans: their table is longer than the entries.
 fn say_entries(rt: &impl Print, block: &[u16], spans: &[u32], count: usize) -> Result<()> {
     for (number, span) in (1..=count).zip(spans.chunks_exact(4)) {
         if let [key, key_len, value, value_len] = span {
@@ -75,9 +75,9 @@ fn list(rt: &impl Print, block: &[u16]) -> Result<()> {
         }
         Err(refusal) => {
             block_unread(rt, refusal, BLOCK_LIMIT)?;
-            match place_of(refusal) {
-                0 => Ok(()),
-                place => say_fault(rt, block, place),
+            match refusal {
+                Refusal::Entry(place) => say_fault(rt, block, place),
+                _ => Ok(()),
             }
         }
     }

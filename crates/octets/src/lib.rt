@@ -12,6 +12,7 @@ pub mod digits;
 use stores::put;
 
 // Whether two runs of bytes are the same.
+// A name for `==`, whose clause speaks in the words of the rules.
 pub fn same(a: &[u8], b: &[u8]) -> bool
     ensures { result ≡ equal a.now b.now }
 {
@@ -32,6 +33,7 @@ pub fn find(bytes: &[u8], byte: u8) -> usize
 }
 
 // A run of bytes from a place on, as far as the output has places; the answer is the place behind it.
+// Byte after byte, and not by `copy_run`: that is made for long runs of units.
 pub fn put_run(out: &mut [u8], at: usize, run: &[u8]) -> usize
     requires { at + length run.now < 2 ^ 64 }
     ensures { Placed run.now at result out.old out.new }

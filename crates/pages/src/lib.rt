@@ -1,4 +1,4 @@
-// Bytes and units of small texts: what has no room is cut, and an example that is cut does not come out as stated.
+// Pages, small texts in bytes, and the verdicts on them: what has no room is cut, and an example that is cut does not come out as stated.
 #![tactic(auto)]
 
 ghost use Rattle.std.specs.Prelude.{◌≤◌};
@@ -6,6 +6,7 @@ ghost use Rattle.std.specs.Prelude.{◌≤◌};
 use std::io::Result;
 
 // A small text in bytes.
+// An array and how much of it is used: nothing is allocated.
 #[derive(Clone, Copy)]
 pub struct Page {
     bytes: [u8; 128],

@@ -6,6 +6,7 @@ use sayings::said;
 use words::lines::{Line, take_line};
 
 // Each question's verb, and a letter for each word behind it (`words`, shapes); the last letter stands for all further words, and `.` for none.
+// A row is one text of one length, verb and letters: it is told apart where a line is, in `words`.
 const ROWS: [[u8; 20]; 14] = [
     *b"read tt.            ",
     *b"line fta            ",

@@ -22,6 +22,7 @@ pub struct Shape {
 }
 
 // A place in the output, and how many backslashes of the argument stand right before it.
+// That no place wraps is asked of each step below: how far it goes is its own.
 #[derive(Clone, Copy)]
 struct Spot {
     to: usize,

@@ -41,6 +41,7 @@ pub fn append_arg(
 }
 
 // One argument of a batch line, at the front of what is lent; the answer is how many units it has. In the Rust: `append_bat_arg`.
+// A function beside `append_arg`, as in the Rust: each decides on quotes by its own rule.
 pub fn append_bat_arg(
     classes: &Classes,
     out: &mut [u16],

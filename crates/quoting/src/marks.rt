@@ -32,7 +32,7 @@ pub fn is_plain(arg: &[u16], batch: bool) -> bool
     !scans::ends_in_backslash(arg) && !scans::has_either(arg, QUOTE, other_mark(batch))
 }
 
-// Whether the eight units from a place on are.
+// Whether the eight units from a place on are all plain.
 fn eight_plain(units: &[u16], at: usize, batch: bool) -> bool
     requires { at + 8 ≤ length units.now }
     ensures { result ≡ is_all_plain batch (part units.now at 8) }

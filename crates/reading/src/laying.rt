@@ -12,6 +12,7 @@ use scans::blanks;
 use stores::{copy_run, put};
 
 // Start and length of an argument at its place of the span table, as far as the table has places.
+// Two numbers of a flat table and no struct: the C interface has it so.
 fn put_span(spans: &mut [u32], i: usize, start: usize, count: usize)
     requires { (i < 4294967296) × (start < 4294967296) × (count < 4294967296) }
     ensures { spans.new ≡ sets spans.old (2 * i) (start ∷ count ∷ []) }

@@ -23,6 +23,7 @@ pub const NO_ARG: Arg = Arg {
 };
 
 // The record of an index, or one of zeros where the list has none.
+// Zeros and no Option: a turn of building takes a record, and looks at none where no record is left.
 pub fn record_at(records: &[u32], index: usize) -> Arg
     ensures { result ≡ get_or (records_of records.now) index no_arg }
 {

@@ -41,6 +41,7 @@ pub struct Answer {
     pub manner: Manner,
     pub spans: usize,
     // The numbers behind them, from one place of the table up to another, and whether they are below 0.
+    // No range and no signed number: the definitions `answer` and `numbered` name these fields.
     pub from: usize,
     pub to: usize,
     pub negative: bool,

@@ -9,6 +9,7 @@ use scans::has_quote;
 use std::io::Result;
 
 // What was given: a program, and the records of its arguments in a text.
+// Not the `Lent` of the cache: nothing is stored here.
 #[derive(Clone, Copy)]
 pub struct Given<'a> {
     pub program: &'a [u16],
@@ -35,6 +36,7 @@ impl<'a> Given<'a> {
 }
 
 // What is read: so many arguments, their texts and their spans.
+// The count beside the spans: their table is longer than what was read.
 #[derive(Clone, Copy)]
 struct Back<'a> {
     text: &'a [u16],

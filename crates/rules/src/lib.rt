@@ -1,7 +1,8 @@
 // What the entry points take and answer, as types. What they mean is said in specs/: this crate has no code.
 #![tactic(auto)]
 
-// An argument record: kind (0 regular, 1 raw), start and length in the lent text.
+// An argument record: kind (0 regular, 1 raw), start and length in the lent text. The kind is a number and no enum: a record is what the caller wrote, and a
+// kind that is none is a refusal.
 #[derive(Clone, Copy, Debug, PartialEq, Eq)]
 pub struct Arg {
     pub kind: u32,
@@ -38,6 +39,7 @@ pub struct Arguments {
 }
 
 // What the block reader answers: how many entries it listed, and how many units of the block they take.
+// Not one with `Arguments`: these units are read, those are written.
 #[derive(Clone, Copy, Debug, PartialEq, Eq)]
 pub struct Entries {
     pub count: usize,

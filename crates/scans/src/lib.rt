@@ -17,6 +17,7 @@ pub fn is_blank(unit: u16) -> bool
 }
 
 // Whether one of the four units from a place on is x. No branch stands between the tests, so that the machine makes them at once.
+// A place and no array of four: the last four of a run overlap those before them.
 fn four_have(units: &[u16], at: usize, x: u16) -> bool
     requires { at + 4 ≤ length units.now }
     ensures { result ≡ any (is_unit x) (part units.now at 4) }
@@ -112,6 +113,7 @@ pub fn has_blank(units: &[u16]) -> bool
 }
 
 // Whether a unit is one of four. The tests are joined without a branch.
+// Four units and no array of them: most callers name one twice.
 fn is_one_of(unit: u16, a: u16, b: u16, c: u16, d: u16) -> bool
     ensures { result ≡ is_one_of a b c d unit }
 {
@@ -196,6 +198,7 @@ pub fn blanks(rest: &[u16]) -> usize
 }
 
 // How many backslashes the rest of a line starts with.
+// Not one with `blanks` over a test: each is one call, and the third would have to promise what its test answers.
 pub fn backslashes(rest: &[u16]) -> usize
     ensures { result ≡ leading is_backslash rest.now }
 {

@@ -60,6 +60,7 @@ pub fn make_command_line_of(
 }
 
 // Builds the line that runs a batch script from a slice of records. In the Rust: `make_bat_command_line`.
+// An entry of its own and no flag, as the flat entries are.
 pub fn make_bat_command_line_of(
     script: &[u16],
     args: &[Arg],

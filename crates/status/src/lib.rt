@@ -16,6 +16,7 @@ const DECIMAL_FRONT: [u16; 11] = [101, 120, 105, 116, 32, 99, 111, 100, 101, 58,
 const HEXADECIMAL_FRONT: [u16; 13] = [101, 120, 105, 116, 32, 99, 111, 100, 101, 58, 32, 48, 120];
 
 // The unit of a digit.
+// Not one with `octets`: its digits are bytes, laid from the first on.
 fn glyph_of(digit: u32) -> u16
     requires { digit < 16 }
     ensures { result ≡ glyph digit }

@@ -1,4 +1,4 @@
-// Stores into lent units. What has no room is skipped, so that the same routine, lent an empty part, measures.
+// Stores into what is lent. What has no room is skipped, so that the same routine, lent an empty part, measures.
 #![tactic(auto)]
 
 ghost use Rattle.std.specs.Prelude.{◌≡◌, ◌+◌, ◌-◌, ◌≤◌, min, length, set, replicate};
@@ -6,6 +6,7 @@ ghost use Rattle.std.proofs.lemmas.List.Edits.{sets};
 ghost use Rattle.rules.specs.Record.{part};
 
 // An element at its place, where what is lent has that place.
+// Output and place stay two parameters, here and wherever units are put: a struct with the output in it would have to say in each clause that it is still the same.
 pub fn put<T: Copy>(out: &mut [T], at: usize, x: T)
     ensures { out.new ≡ set out.old at x }
 {
@@ -22,6 +23,7 @@ fn fitting(places: usize, at: usize, count: usize) -> usize
 }
 
 // The first n units of a run, one after another, where n have places.
+// The count beside the run: it is clipped once, for all ways of copying.
 fn copy_slowly(out: &mut [u16], at: usize, run: &[u16], n: usize)
     requires { n ≡ min (length run.now) (length out.old - at) }
     ensures { out.new ≡ sets out.old at run.now }

@@ -62,6 +62,7 @@ fn is_between(least: u8, most: u8, byte: u8) -> bool
 }
 
 // Whether the third and the fourth of so many bytes may stand there.
+// The count beside the bytes: the table gives it, and more bytes than it may stand there.
 #[tactic(auto, using(crate::proofs::Sequence::tails))]
 fn are_tails(count: usize, bytes: &[u8]) -> bool
     requires { count ≤ length bytes.now }
@@ -89,6 +90,7 @@ fn longer(number: u32, byte: u8) -> u32
 }
 
 // The character of a sequence of so many bytes.
+// The count beside the bytes, as above.
 #[tactic(auto, using(crate::proofs::Sequence::values))]
 fn value_of(count: usize, bytes: &[u8]) -> u32
     requires { (0 < count) × (count ≤ length bytes.now) }

@@ -4,6 +4,7 @@ ghost use Rattle.rules.specs.Unit.{class_of};
 ghost use Rattle.units.specs.Table.{class_table};
 
 // The number of each unit's class: 1 NUL, 2 line breaks, 3 blanks, 4 quote, 5 backslash, 6 percent, 7 other forcing units, 0 the rest.
+// Numbers and no enum: the C interface hands them out.
 const CLASSES: [u8; 256] = [
     1, 7, 7, 7, 7, 7, 7, 7, 7, 3, 2, 7, 7, 2, 7, 7, 7, 7, 7, 7, 7, 7, 7, 7, 7, 7, 7, 7, 7, 7, 7, 7,
     3, 7, 4, 0, 0, 6, 7, 7, 7, 7, 0, 0, 7, 0, 0, 0, 0, 0, 0, 0, 0, 0, 0, 0, 0, 0, 0, 7, 7, 7, 7, 0,

@@ -1,4 +1,4 @@
-// The kinds of arguments: the one place in code that knows their numbers.
+// The kinds of arguments: the one place in code that reads their numbers.
 ghost use Rattle.std.specs.Prelude.{◌≡◌};
 ghost use Rattle.rules.specs.Record.{is_regular, is_no_kind};
 ghost use Rattle.units.specs.Kind.{kind_of};

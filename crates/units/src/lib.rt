@@ -1,4 +1,4 @@
-// Units: their classes, the kinds of argument records, parts of a lent text, and a refusal's number and place.
+// Units: their classes, the kinds of argument records, parts of a lent text, what results count, and a refusal's number and place.
 #![tactic(auto)]
 
 pub mod classes;

@@ -6,6 +6,7 @@ ghost use Rattle.laws.specs.Answer.{refusal_of};
 use rules::Refusal;
 
 // The refusal's number.
+// A function and no `From`: the refusal is declared in `rules`, which has no code of its own.
 pub fn number_of(r: Refusal) -> u32
     ensures { result ≡ refusal_number r }
 {
@@ -35,6 +36,7 @@ pub fn place_of(r: Refusal) -> usize
 }
 
 // The refusal of a number and a place, where the number is a refusal's.
+// Any other number is read as 8: none is asked about.
 #[tactic(auto, unfolding(laws::specs::Answer::refusal_of))]
 pub fn refusal_of(number: u32, place: usize) -> Refusal
     ensures { result ≡ refusal_of number place }
