@@ -1,7 +1,7 @@
 // Pages, small texts in bytes, and the verdicts on them: what has no room is cut, and an example that is cut does not come out as stated.
 #![tactic(auto)]
 
-ghost use Rattle.std.specs.Prelude.{◌≤◌};
+ghost use Rattle.std.specs.Prelude.{◌≡◌, ◌≤◌, ◌↔◌, IsSome, length};
 
 use std::io::Result;
 
@@ -21,7 +21,9 @@ fn narrow(unit: u16) -> u8 {
 
 impl Page {
     // An empty one.
-    pub fn new() -> Page {
+    pub fn new() -> Page
+        ensures { result.len ≡ 0 }
+    {
         Page {
             bytes: [0; 128],
             len: 0,
@@ -44,13 +46,17 @@ impl Page {
     }
 
     // Its bytes.
-    pub fn bytes(&self) -> &[u8] {
+    pub fn bytes(&self) -> &[u8]
+        ensures { length result.now ≡ self.now.len }
+    {
         &self.bytes[..self.len]
     }
 }
 
 // The page of so many units in front of an output, or none where the output has fewer.
-pub fn front(out: &[u16], units: usize) -> Option<Page> {
+pub fn front(out: &[u16], units: usize) -> Option<Page>
+    ensures { IsSome result ↔ (units ≤ length out.now) }
+{
     let mut page = Page::new();
     page.put_units(out.get(..units)?);
     Some(page)
