@@ -9,6 +9,7 @@ use crate::entry_records::{EntryRecord, NUMBERS};
 use units::parts;
 
 // Whether start plus length exceeds a text's length. Both are widened first, so that their sum cannot wrap.
+// Not one with the test of an argument record: each is a line, by a definition of its own.
 fn exceeds(units: usize, start: u32, len: u32) -> bool
     ensures { result ≡ ltb units (start + len) }
 {

@@ -89,6 +89,7 @@ pub fn status(rt: &(impl Env + Print)) -> Result<()> {
         return println!(rt; "error: status takes one word, a number");
     }
     let mut word = room::word();
+    // A word that is too long is taken as empty, which is no number.
     let n = rt.arg(2, &mut word).unwrap_or(0);
     match number_of(&word[..n]) {
         Some(number) => {

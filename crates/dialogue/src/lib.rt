@@ -1,4 +1,5 @@
-// A program's dialogue by lines: the lines of standard input one after another, and an answer to each on standard output.
+// A program's dialogue by lines: the lines of standard input one after another, and an answer to each on standard output. A proved loop has to end, so each
+// counts its turns, to a number that no input uses up.
 #![tactic(auto)]
 
 ghost use Rattle.std.specs.Prelude.{◌≡◌, ◌≤◌, ◌<◌, ◌+◌, IfOk, IfSome, OnErr, length};
@@ -142,7 +143,7 @@ fn show(
     })
 }
 
-// Has each line of the input answered, until the input ends. A proved loop has to end, so it counts its turns, to a number that no input uses up.
+// Has each line of the input answered, until the input ends.
 pub fn converse<R: Read, J: Judge>(
     rt: &impl Print,
     input: &mut R,

@@ -2,6 +2,7 @@
 ghost use Rattle.std.specs.Prelude.{◌≤◌};
 
 // The bytes of the chunk that was read last which are still to be taken, how many bytes the line has, and how many bytes of the piece are taken by answers.
+// Each field is named wherever one is made: `..` is not to be had over a ghost field.
 #[derive(Clone, Copy, Debug, PartialEq, Eq)]
 pub struct Turn {
     pub from: usize,

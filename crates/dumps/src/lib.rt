@@ -22,6 +22,7 @@ fn unit_of(low: u8, high: u8) -> u16
 }
 
 // The units of a dump, at the front of what is lent and as far as there is room. Answers how many there are.
+// A slice pattern and no `as_chunks`: how many units there are is counted along.
 #[tactic(auto, using(crate::proofs::Dumping::few))]
 pub fn units_of(bytes: &[u8], out: &mut [u16]) -> usize
     ensures { (result ≡ length (dumped bytes.now)) × (out.new ≡ sets out.old 0 (dumped bytes.now)) }

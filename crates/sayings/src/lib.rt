@@ -111,6 +111,7 @@ pub fn lent_told<T: Counted>(answer: Result<T, Refusal>) -> Answer
 }
 
 // So many places of a table, two for each text.
+// By a comparison and no product: the product may not fit.
 fn places_of(texts: usize, places: usize) -> usize
     ensures { result ≡ min (texts * 2) places }
 {
