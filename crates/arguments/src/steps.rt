@@ -8,7 +8,7 @@ use scans::backslashes;
 use stores::{copy_run, put, repeat};
 
 // Where a reader stands: how many units of the rest are used, how many of the argument are written, and whether quoted mode is on.
-// That less is written than used is asked of each step and not said here: the rest that a point is in stands beside it, and so does what is asked of that.
+// What each step asks of a point is said there: a ghost field for it would forbid `..here`.
 #[derive(Clone, Copy, Debug, PartialEq, Eq)]
 pub struct Point {
     pub used: usize,

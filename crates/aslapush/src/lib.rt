@@ -1,4 +1,5 @@
-// The C interface: one exported function for each entry point, over integers, slices and fixed arrays alone. include/aslapush.h says it for C.
+// The C interface: one exported function for each entry point, over integers, slices and fixed arrays alone. include/aslapush.h says it for C. A refusal is its
+// number and 0 is none: C has no Result.
 #![tactic(auto)]
 
 mod answers;

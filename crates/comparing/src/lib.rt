@@ -78,7 +78,7 @@ fn parts_same(a: &[u16], b: &[u16]) -> bool
 }
 
 // Whether two runs of units are the same.
-// A leaf and no `==`: how runs of each length are compared is this file.
+// In three ways and not by `==`: docs/DECISIONS.md, Speed, says what they are for.
 pub fn same_units(a: &[u16], b: &[u16]) -> bool
     ensures { result ≡ equal a.now b.now }
 {

@@ -6,6 +6,7 @@ use std::io;
 use units::refusals::{number_of, place_of};
 
 // A line of so many units, as far as a page holds it.
+// The count beside the output: it is what the builder answered, and the output may be shorter.
 fn print_line(rt: &impl Print, out: &[u16], units: usize) -> io::Result<()> {
     let Some(page) = front(out, units) else {
         return Ok(());

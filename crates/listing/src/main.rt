@@ -15,7 +15,7 @@ use unread::{no_file, odd_bytes};
 mod unread;
 
 // Each entry on a line of its own. The table has the numbers of all.
-// The count beside the spans: their table is longer than the entries.
+// The count beside the spans: it numbers the entries, and so ends the table too.
 fn say_entries(rt: &impl Print, block: &[u16], spans: &[u32], count: usize) -> Result<()> {
     for (number, span) in (1..=count).zip(spans.chunks_exact(4)) {
         if let [key, key_len, value, value_len] = span {

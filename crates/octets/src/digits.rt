@@ -17,7 +17,7 @@ pub fn put_one(out: &mut [u8], at: usize, byte: u8) -> usize
 }
 
 // The byte of a digit: 0 to 9, then a to f.
-// Not one with the digits of a status: those are units, and `status` stands on units alone.
+// Not one with the digits of a status: those are units, these bytes.
 fn glyph(digit: u64) -> u8
     requires { digit < 16 }
     ensures { result ≡ Status·glyph digit }

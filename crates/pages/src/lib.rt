@@ -54,6 +54,7 @@ impl Page {
 }
 
 // The page of so many units in front of an output, or none where the output has fewer.
+// The count beside the output: it is what a builder answered, and the output may be shorter.
 pub fn front(out: &[u16], units: usize) -> Option<Page>
     ensures { IsSome result ↔ (units ≤ length out.now) }
 {

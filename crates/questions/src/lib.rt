@@ -6,7 +6,7 @@ use sayings::said;
 use words::lines::{Line, take_line};
 
 // Each question's verb, and a letter for each word behind it (`words`, shapes); the last letter stands for all further words, and `.` for none.
-// A row is one text of one length, verb and letters: it is told apart where a line is, in `words`.
+// One text a row: `words::take_line` takes rows of 20 bytes, and tells verb and letters apart.
 const ROWS: [[u8; 20]; 14] = [
     *b"read tt.            ",
     *b"line fta            ",

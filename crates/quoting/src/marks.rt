@@ -33,6 +33,7 @@ pub fn is_plain(arg: &[u16], batch: bool) -> bool
 }
 
 // Whether the eight units from a place on are all plain.
+// A place and no array of eight, as `scans::eight_have_either` takes it.
 fn eight_plain(units: &[u16], at: usize, batch: bool) -> bool
     requires { at + 8 ≤ length units.now }
     ensures { result ≡ is_all_plain batch (part units.now at 8) }

@@ -90,6 +90,7 @@ pub fn parse_lp_cmd_line(
 }
 
 // Where a part lies in the caller's text.
+// Not one with a place in a store: this part lies in what the caller lends.
 #[derive(Clone, Copy, Debug, PartialEq, Eq)]
 pub struct Span {
     pub start: usize,
@@ -97,6 +98,7 @@ pub struct Span {
 }
 
 // Start and length of one argument's part in the caller's text; 0 and 0 where the table has no such place or its span reaches past the text.
+// Text, table and index one by one: the C interface lends them so.
 pub fn span_of(text: &[u16], spans: &[u32], index: usize) -> Span
     ensures { result ≡ argument_span text.now spans.now index }
 {

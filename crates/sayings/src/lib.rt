@@ -111,15 +111,10 @@ pub fn lent_told<T: Counted>(answer: Result<T, Refusal>) -> Answer
 }
 
 // So many places of a table, two for each text.
-// By a comparison and no product: the product may not fit.
 fn places_of(texts: usize, places: usize) -> usize
     ensures { result ≡ min (texts * 2) places }
 {
-    if places / 2 < texts {
-        places
-    } else {
-        texts * 2
-    }
+    texts.saturating_mul(2).min(places)
 }
 
 // `ok COUNT A0 A1 ..`, by a span table of so many places

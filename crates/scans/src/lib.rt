@@ -50,6 +50,7 @@ pub fn eight_have_either(units: &[u16], at: usize, a: u16, b: u16) -> bool
 }
 
 // Whether a unit is a or b, for few units: one after another.
+// Two units and no array of them, here and below: whoever looks for one names it twice.
 fn few_have_either(units: &[u16], a: u16, b: u16) -> bool
     ensures { result ≡ any (is_either a b) units.now }
 {

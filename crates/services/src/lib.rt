@@ -14,7 +14,7 @@ use sayings::{cached_told, said};
 use words::lines::{Line, take_line};
 
 // Each call's verb, and a letter for each word behind it (`words`, shapes); the last letter stands for all further words, and `.` for none.
-// A row is one text of one length, verb and letters: it is told apart where a line is, in `words`.
+// One text a row: `words::take_line` takes rows of 20 bytes, and tells verb and letters apart.
 const ROWS: [[u8; 20]; 4] = [
     *b"make n.             ",
     *b"look wfta           ",
@@ -23,7 +23,7 @@ const ROWS: [[u8; 20]; 4] = [
 ];
 
 // What `look` and `store` ask for, apart from the text of the records.
-// Not the `Lent` of the cache: the text stands beside it in every clause.
+// Not the `Lent` of the cache: that has the text, and no fingerprint.
 struct Call<'a> {
     fingerprint: u64,
     force: bool,
@@ -134,7 +134,7 @@ fn serve_row(
 }
 
 // Answers a call, over a store that was made over so many of the lent units, or none. A bad one leaves the store as it is.
-// The store is lent in parts, what was made of it beside them: a struct of arrays would ask for a store of a size that is known to the compiler.
+// The store is lent in parts, what was made of it beside them: a struct that lent them would have to say in each clause that it still lends the same ones.
 pub fn serve(
     line: &[u8],
     text: &mut [u16],

@@ -14,6 +14,7 @@ use rules::{Arg, Line, Refusal};
 use units::classes::Classes;
 
 // The record of an index, or one of zeros where the slice has none.
+// Zeros and no Option: a turn takes a record, and looks at none where no record is left.
 fn record_at(args: &[Arg], index: usize) -> Arg
     ensures { result ≡ get_or args.now index no_arg }
 {

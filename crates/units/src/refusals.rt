@@ -36,7 +36,7 @@ pub fn place_of(r: Refusal) -> usize
 }
 
 // The refusal of a number and a place, where the number is a refusal's.
-// Any other number is read as 8: none is asked about.
+// No program calls it: its contract says that a number and a place give the refusal back. Any other number is read as 8.
 #[tactic(auto, unfolding(laws::specs::Answer::refusal_of))]
 pub fn refusal_of(number: u32, place: usize) -> Refusal
     ensures { result ≡ refusal_of number place }

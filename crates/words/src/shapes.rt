@@ -59,7 +59,7 @@ fn take_pair(
 }
 
 // A word of a shape, or of none, which is no word.
-// An Option, so that a letter that stands for no shape is answered here too.
+// An Option, though its caller has a shape: the definition that is its contract takes one.
 #[tactic(auto, unfolding(crate::specs::Shape::shape_on))]
 pub fn take_word(
     shape: Option<Shape>,
