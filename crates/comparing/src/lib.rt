@@ -65,7 +65,7 @@ fn parts_same(a: &[u16], b: &[u16]) -> bool
     requires { length a.now ≡ length b.now }
     ensures { result ≡ equal a.now b.now }
 {
-    // A `while`: it goes on where a part ends.
+    // A `while` and not the library's parts: that each two of those are of one length would have to be shown anew.
     let mut i = 0;
     while i < a.len() {
         let end = a.len().min(i + 1024);

@@ -49,7 +49,7 @@ pub fn widen(bytes: &[u8], units: &mut [u16]) -> usize
     ensures { (result ≡ min (length bytes.now) (length units.old)) × (units.new ≡ sets units.old 0 bytes.now) }
 {
     let n = bytes.len().min(units.len());
-    // An index: a byte is read and a unit written at the same place.
+    // An index and no `zip`: behind an adapter of `iter_mut` nothing is known of what was written.
     for i in 0..n {
         units[i] = u16::from(bytes[i]);
     }

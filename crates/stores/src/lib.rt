@@ -28,7 +28,7 @@ fn copy_slowly(out: &mut [u16], at: usize, run: &[u16], n: usize)
     requires { n ≡ min (length run.now) (length out.old - at) }
     ensures { out.new ≡ sets out.old at run.now }
 {
-    // An index and no `copy_from_slice`: a place behind the end of the output has no range, and these are few.
+    // An index and no `copy_from_slice`: a place behind the end of the output has no range, and would need a test of its own; these are few.
     for i in 0..n {
         out[at + i] = run[i];
     }
@@ -102,7 +102,7 @@ pub fn repeat(out: &mut [u16], at: usize, unit: u16, count: usize)
     ensures { out.new ≡ sets out.old at (replicate count unit) }
 {
     let n = fitting(out.len(), at, count);
-    // An index and no `fill`: a place behind the end of the output has no range.
+    // An index and no `fill`: a place behind the end of the output has no range, and would need a test of its own.
     for i in 0..n {
         out[at + i] = unit;
     }
