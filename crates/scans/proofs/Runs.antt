@@ -1,8 +1,9 @@
 -- std's words on a list that is looked through, as the rules' words. Assumes nothing.
-use Rattle.std.proofs.Common.{ℕ, ◌≡◌, Bool, true, false, not, cond, Option, Some, None, List, [], ◌∷◌, length, ltb, refl, suc, ◌+◌, arith, unwrap_or, ◌∙◌, ◌-◌, Bor, eqb}
+use Rattle.std.proofs.Common.{ℕ, ◌≡◌, Bool, true, false, not, cond, Option, Some, None, List, [], ◌∷◌, length, ltb, refl, zero, suc, get_or, ◌+◌, arith, unwrap_or, ◌∙◌, ◌-◌, Bor, eqb}
 use Rattle.std.proofs.lemmas.Bool.{ltb-false}
 use Rattle.std.specs.List.{list_any, position_or_len, slice_get}
 use Rattle.laws.specs.Any.{or_either}
+use Rattle.laws.specs.Last.{last_unit}
 use Rattle.laws.specs.Scan.{leading, leading_in}
 use Rattle.std.specs.Option.{option_eq, option_copied}
 use Rattle.rules.specs.Choice.{any, flip, pick}
@@ -45,11 +46,12 @@ pub lent_last : (r : Option (Bor ℕ)) (y : Bor ℕ) → y.now ≡ 92 → option
 lent_last None y h = refl
 lent_last (Some x) y h = rw h
 
+-- what has no place is no backslash
+at_place : (xs : List ℕ) (k : ℕ) → last_is_backslash (slice_get xs k) ≡ is_backslash (get_or xs k 0)
+at_place [] k = refl
+at_place (x ∷ xs) zero = refl
+at_place (x ∷ xs) (suc k) = at_place xs k
+
 -- and of the list
 pub last_ends : (xs : List ℕ) → last_is_backslash (slice_get xs (length xs - 1)) ≡ ends_in_backslash xs
-unfolding ends_in_backslash
-last_ends [] = refl
-last_ends (x ∷ []) = refl
-last_ends (x ∷ y ∷ ys) =
-    let e : suc (suc (length ys)) - 1 ≡ suc (suc (length ys) - 1) = omega arith in
-    rw e (last_ends (y ∷ ys))
+last_ends xs = at_place xs (length xs - 1) ∙ last_unit xs
