@@ -1,7 +1,7 @@
 // Pages, small texts in bytes, and the verdicts on them: what has no room is cut, and an example that is cut does not come out as stated.
 #![tactic(auto)]
 
-ghost use Rattle.std.specs.Prelude.{◌≡◌, ◌≤◌, ◌↔◌, IsSome, length};
+ghost use Rattle.std.specs.Prelude.{◌≡◌, ◌+◌, ◌≤◌, ◌↔◌, IsSome, length, min};
 
 use std::io::Result;
 
@@ -31,7 +31,9 @@ impl Page {
     }
 
     // A byte behind those that there are.
-    pub fn put(&mut self, byte: u8) {
+    pub fn put(&mut self, byte: u8)
+        ensures { self.new.len ≡ min (self.old.len + 1) 128 }
+    {
         if self.len < self.bytes.len() {
             self.bytes[self.len] = byte;
             self.len += 1;
@@ -39,7 +41,9 @@ impl Page {
     }
 
     // Units behind the bytes that there are.
-    pub fn put_units(&mut self, units: &[u16]) {
+    pub fn put_units(&mut self, units: &[u16])
+        ensures { self.old.len ≤ self.new.len }
+    {
         for &unit in units {
             self.put(narrow(unit));
         }
