@@ -9,7 +9,7 @@ use borrow.Author.Tests.{ne_eqb}
 use lib.Dec.{eqb}
 use lib.ListN.{length, drop, get_or}
 use lib.Seq.{drop-cons}
-use Rattle.std.specs.Prelude.{◌==◌}
+use Rattle.std.specs.Prelude.{◌==◌, ◌/◌, ◌^◌, nat_eq, bit_and}
 use Rattle.rules.specs.Choice.{either, any, is_empty}
 use Rattle.rules.specs.Unit.{class_of}
 use Rattle.laws.specs.Class.{class_most, class_tests}
@@ -44,6 +44,18 @@ forcing_classes (suc (suc (suc (suc (suc zero))))) h = refl
 forcing_classes (suc (suc (suc (suc (suc (suc zero)))))) h = refl
 forcing_classes (suc (suc (suc (suc (suc (suc (suc zero))))))) h = refl
 forcing_classes (suc (suc (suc (suc (suc (suc (suc (suc class)))))))) h = absurd (omega arith)
+
+-- the bits of 222 are the classes of forcing units
+pub forcing_bits : (class : ℕ) → class < 8 → nat_eq (bit_and (222 / 2 ^ class) 1) 1 ≡ settles_by true class
+forcing_bits zero h = refl
+forcing_bits (suc zero) h = refl
+forcing_bits (suc (suc zero)) h = refl
+forcing_bits (suc (suc (suc zero))) h = refl
+forcing_bits (suc (suc (suc (suc zero)))) h = refl
+forcing_bits (suc (suc (suc (suc (suc zero))))) h = refl
+forcing_bits (suc (suc (suc (suc (suc (suc zero)))))) h = refl
+forcing_bits (suc (suc (suc (suc (suc (suc (suc zero))))))) h = refl
+forcing_bits (suc (suc (suc (suc (suc (suc (suc (suc class)))))))) h = absurd (omega arith)
 
 -- a unit's class tells whether it settles that quotes are needed
 pub class_settles : (batch : Bool) (x : ℕ) → settles_by batch (class_of x) ≡ is_settling batch x

@@ -1,8 +1,16 @@
 -- `decisions::has_settling` meets its contract. Assumes nothing.
+use native.Mathlib.Omega.{arith}
+use lib.ListN.{get_or}
 use mathlib.Core.Path.{◌∙◌, sym}
+use Rattle.laws.specs.Class.{class_most}
 use Rattle.decisions.specs.Settling.{is_settling}
 use Rattle.decisions.proofs.Deciding.{any_turn, class_settles}
 use Rattle.decisions.proofs.has_settling.Goals as goal
+
+pub settles-requires : goal.settles-requires
+settles-requires c =
+    let most = class_most (get_or c.args.arg.now c.loop-unit.unit-index 0) in
+    rw c.class_of.ensures (omega (arith, most))
 
 pub returns-then-settles : goal.returns-then-settles
 returns-then-settles c =
