@@ -52,8 +52,8 @@ fn eights_same(a: &[u16], b: &[u16]) -> bool
     ensures { result ≡ equal a.now b.now }
 {
     let last = a.len() - 8;
-    for i in (0..last).step_by(8) {
-        if !eight_same(a, b, i) {
+    for k in 0..(last + 7) / 8 {
+        if !eight_same(a, b, 8 * k) {
             return false;
         }
     }

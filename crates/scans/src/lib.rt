@@ -63,8 +63,8 @@ fn many_have_either(units: &[u16], a: u16, b: u16) -> bool
     ensures { result ≡ any (is_either a b) units.now }
 {
     let last = units.len() - 8;
-    for i in (0..last).step_by(8) {
-        if eight_have_either(units, i, a, b) {
+    for k in 0..(last + 7) / 8 {
+        if eight_have_either(units, 8 * k, a, b) {
             return true;
         }
     }
