@@ -24,14 +24,14 @@ impl<'a> Given<'a> {
     }
 
     // The argument of an index: argument 0 is the program, each other the part of the text that its record names behind its kind.
+    // By the place of its record, and not by whole records: what is left of one that is cut names no part, which is the empty argument.
     fn argument(&self, index: usize) -> Option<&'a [u16]> {
         if index == 0 {
             return Some(self.program);
         }
-        match self.records.chunks_exact(3).nth(index - 1) {
-            Some([_, span @ ..]) => Some(argument(self.text, span, 0)),
-            _ => None,
-        }
+        let at = index.checked_mul(3)? - 2;
+        let span = self.records.get(at..)?;
+        Some(argument(self.text, span, 0))
     }
 }
 
