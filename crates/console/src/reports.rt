@@ -126,7 +126,7 @@ A dump is the units' bytes, two each, the low one first; FILE is - where it come
 A unit that cannot be seen is shown as {hex}, and so are { and }: a tab is {9}, a NUL {0}.
 ";
 
-// The page that says what the tool does.
+// The page that says what the tool does. One write and no format: it is longer than what a format gathers, and would go in two.
 pub fn help(rt: &impl Print) -> Result<()> {
-    print!(rt; "{HELP}")
+    rt.write_all(HELP.as_bytes())
 }
