@@ -5,6 +5,7 @@ use octets::widen;
 use pages::{Page, compare, front, verdict};
 use rules::{Arguments, Line, Refusal};
 use std::io;
+use units::refusals::{number_of, place_of};
 
 // The arguments that were read, each with a line feed behind it.
 // A count and an index: the table is longer than what was read, and `reading::argument` takes an index.
@@ -32,7 +33,7 @@ pub fn reads(rt: &impl Print, line: &[u8], stated: &[u8]) -> io::Result<()> {
     }
 }
 
-// The verdict where a builder should have written this line.
+// The verdict where a builder should have written this line. What is refused has no units.
 fn written(
     rt: &impl Print,
     verb: &[u8],
@@ -41,8 +42,8 @@ fn written(
     out: &[u16],
     stated: &[u8],
 ) -> io::Result<()> {
-    let line = built.ok().and_then(|line| front(out, line.units));
-    match line {
+    let units = built.map_or(0, |line| line.units);
+    match front(out, units) {
         Some(page) => compare(rt, verb, arg, page.bytes(), stated),
         None => verdict(rt, verb, arg, false),
     }
@@ -75,33 +76,36 @@ pub fn batches(rt: &impl Print, arg: &[u8], stated: &[u8]) -> io::Result<()> {
     written(rt, b"batch ", arg, built, &out, stated)
 }
 
-// One regular argument of a batch line is refused so.
-pub fn batch_refused(rt: &impl Print, arg: &[u8], refusal: Refusal, name: &[u8]) -> io::Result<()> {
-    let mut out = [0u16; 96];
-    let built = batch_line(arg, &mut out);
-    verdict(rt, b"batch ", name, built == Err(refusal))
-}
-
-// A line of so many units is read into as many, or refused so.
-pub fn limit(
+// One regular argument of a batch line is refused by this number at this place, or built, where the number is 0.
+// Numbers and no refusal, here and below: a number may be one that no refusal has.
+pub fn batch_refused(
     rt: &impl Print,
-    units: usize,
-    stated: Result<usize, Refusal>,
+    arg: &[u8],
+    number: u32,
+    place: usize,
     name: &[u8],
 ) -> io::Result<()> {
+    let mut out = [0u16; 96];
+    let holds = match batch_line(arg, &mut out) {
+        Ok(_) => number == 0,
+        Err(refusal) => number_of(refusal) == number && place_of(refusal) == place,
+    };
+    verdict(rt, b"batch ", name, holds)
+}
+
+// A line of so many units is read into as many, where the number is 0, or refused by this number.
+pub fn limit(rt: &impl Print, units: usize, number: u32, name: &[u8]) -> io::Result<()> {
     let line = [u16::from(b'a'); 32768];
     let mut text = [0u16; 32768];
     let mut spans = [0u32; 4];
     let Some(front) = line.get(..units) else {
         return Ok(());
     };
-    let parsed = reading::parse_lp_cmd_line(front, &[], &mut text, &mut spans);
-    verdict(
-        rt,
-        b"read ",
-        name,
-        parsed.map(|arguments| arguments.units) == stated,
-    )
+    let holds = match reading::parse_lp_cmd_line(front, &[], &mut text, &mut spans) {
+        Ok(arguments) => number == 0 && arguments.units == units,
+        Err(refusal) => number_of(refusal) == number,
+    };
+    verdict(rt, b"read ", name, holds)
 }
 
 // Four quotes, forced, take 10 units: a line of program `p` then has 14.

@@ -7,7 +7,6 @@ mod listed;
 
 use cases::{batch_refused, batches, bounds, limit, reads, unchanged, writes};
 use listed::print_lines;
-use rules::Refusal;
 use std::io::Result;
 
 // The table for the C language.
@@ -30,13 +29,8 @@ const CPP_TABLE: [(&str, &str); 2] = [
 fn unmarked(rt: &impl Print) -> Result<()> {
     println!(rt; "The document's unmarked examples")?;
     reads(rt, b"\"a b\"c d", b"a bc\nd\n")?;
-    limit(rt, 32767, Ok(32767), b"a line of 32,767 units")?;
-    limit(
-        rt,
-        32768,
-        Err(Refusal::Length),
-        b"a line of 32,768 units is refused by 2",
-    )?;
+    limit(rt, 32767, 0, b"a line of 32,767 units")?;
+    limit(rt, 32768, 2, b"a line of 32,768 units is refused by 2")?;
     bounds(rt)
 }
 
@@ -51,12 +45,7 @@ fn errors(rt: &impl Print) -> Result<()> {
         b"a\"b",
         b"cmd.exe /e:ON /v:OFF /d /c \"\"a.bat\" \"a\"\"b\"\"",
     )?;
-    batch_refused(
-        rt,
-        b"\0\r",
-        Refusal::LineBreak(1),
-        b"NUL, CR is refused by 6, place 1",
-    )?;
+    batch_refused(rt, b"\0\r", 6, 1, b"NUL, CR is refused by 6, place 1")?;
     unchanged(rt)
 }
 
