@@ -1,18 +1,21 @@
 // Why a dump cannot be read.
+ghost use Rattle.std.specs.Prelude.{Some};
+ghost use Rattle.dumps.specs.Causes.{cause_text};
+
 use std::{fmt, io};
 
 // The numbers of Linux that are told by name.
-const ENOENT: i32 = 2;
+pub const ENOENT: i32 = 2;
 
-const EACCES: i32 = 13;
+pub const EACCES: i32 = 13;
 
-const ENOTDIR: i32 = 20;
+pub const ENOTDIR: i32 = 20;
 
-const EISDIR: i32 = 21;
+pub const EISDIR: i32 = 21;
 
-const EINVAL: i32 = 22;
+pub const EINVAL: i32 = 22;
 
-const ENAMETOOLONG: i32 = 36;
+pub const ENAMETOOLONG: i32 = 36;
 
 // What goes wrong with a dump. Any other error of the system's goes by its number.
 #[derive(Clone, Copy, Debug, PartialEq, Eq)]
@@ -47,6 +50,8 @@ impl From<io::Error> for Cause {
 }
 
 impl fmt::Display for Cause {
+    ghost output = { λ cause. Some (cause_text cause) };
+
     fn fmt<W: fmt::Write>(&self, f: &mut fmt::Formatter<W>) -> fmt::Result {
         match self {
             Cause::NotFound => write!(f, "no such file"),
