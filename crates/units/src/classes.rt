@@ -17,7 +17,7 @@ const CLASSES: [u8; 256] = [
 ];
 
 // The table of classes, to be made once in an entry point and lent down: it is made anew wherever it is named.
-#[derive(Drop)]
+#[derive(Clone, Copy)]
 pub struct Classes {
     table: [u8; 256],
     ghost is_table: { table ≡ class_table },
